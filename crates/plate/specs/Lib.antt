@@ -1,0 +1,5 @@
+pub mod World
+pub mod Answers
+pub mod Plates
+pub mod Windows
+pub mod Bare
