@@ -117,11 +117,11 @@ unfolding bounded
 framed-canonical w b = record {
   told = canonical-twice w;
   worldly = λ p h.
-    let e = and-parts (world (w .left, w .top)) (world (w .right, w .bottom)) b in
-    let low = world-orders (w .left, w .top) (e .0) in
-    let high = world-orders (w .right, w .bottom) (e .1) in
-    let i = inside-orders w p (sym (inside-canonical w p) ∙ h) in
-    orders-world p (omega (arith, ints)) (omega (arith, ints));
+      let e = and-parts (world (w .left, w .top)) (world (w .right, w .bottom)) b in
+      let low = world-orders (w .left, w .top) (e .0) in
+      let high = world-orders (w .right, w .bottom) (e .1) in
+      let i = inside-orders w p (sym (inside-canonical w p) ∙ h) in
+      orders-world p (omega (arith, ints)) (omega (arith, ints));
 }
 
 pub framed-windowOf : (w : Window) → Framed (windowOf w)

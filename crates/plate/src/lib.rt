@@ -46,6 +46,14 @@ pub enum Facing {
     Anti,
 }
 
+// A cause of refusal, known to workshops by its number.
+pub trait Refusal {
+    ghost number: { Self → ℕ };
+
+    fn number(&self) -> u8
+        ensures { λ r. ⌜ r ≡ number (now (self .entry)) ⌝ };
+}
+
 // Why a strike was refused.
 #[derive(Clone, Copy)]
 pub enum StrikeRefusal {
@@ -53,10 +61,10 @@ pub enum StrikeRefusal {
     NoShots,
 }
 
-impl StrikeRefusal {
-    pub fn number(self) -> u8
-        ensures { λ r. ⌜ r ≡ strikeNumber self ⌝ }
-    {
+pub impl Refusal for StrikeRefusal as StrikeRefusalNumber {
+    ghost number = { strikeNumber };
+
+    fn number(&self) -> u8 {
         match self {
             StrikeRefusal::Outside => 20,
             StrikeRefusal::NoShots => 21,
@@ -70,10 +78,10 @@ pub enum WindowRefusal {
     BeyondWorld,
 }
 
-impl WindowRefusal {
-    pub fn number(self) -> u8
-        ensures { λ r. ⌜ r ≡ windowNumber self ⌝ }
-    {
+pub impl Refusal for WindowRefusal as WindowRefusalNumber {
+    ghost number = { windowNumber };
+
+    fn number(&self) -> u8 {
         match self {
             WindowRefusal::BeyondWorld => 1,
         }
