@@ -7,7 +7,7 @@ use native.Mathlib.Omega.{arith}
 use lib.ListN.{length, length-append}
 use Rattle.plate.specs.declared.Window.{Window}
 use Rattle.plate.specs.World.{Dot, inside, inked}
-use Rattle.plate.specs.Plates.{Strike, Meaning, After, Framed, Layer, Laws, same, struck, litAfter, sunk, meaning}
+use Rattle.plate.specs.Plates.{Strike, Meaning, After, Framed, Layer, Laws, same, struck, litAfter, AllIn, sunk, meaning}
 
 -- strikes after strikes
 pub litAfter-join : (xs ys : List Strike) (lit : Dot → Bool) (p : Dot) → litAfter (xs ++ ys) lit p ≡ litAfter ys (λ q. litAfter xs lit q) p
@@ -18,6 +18,10 @@ litAfter-join (x ∷ xs) ys lit p = litAfter-join xs ys (struck x lit) p
 pub litAfter-at : (xs : List Strike) (f g : Dot → Bool) (p : Dot) → f p ≡ g p → litAfter xs f p ≡ litAfter xs g p
 litAfter-at [] f g p h = h
 litAfter-at (x ∷ xs) f g p h = litAfter-at xs (struck x f) (struck x g) p (ap (λ b. cond (same p (x .0)) (inked (x .1) b) b) h)
+
+pub all-in-join : (f : Dot → Bool) (xs ys : List Strike) → AllIn f xs → AllIn f ys → AllIn f (xs ++ ys)
+all-in-join f [] ys a b = b
+all-in-join f (x ∷ xs) ys a b = (a .0, all-in-join f xs ys (a .1) b)
 
 pub after-none : (m : Meaning) → After [] m m
 after-none m = record { window = refl; lit = λ p h. refl; shots = omega arith }

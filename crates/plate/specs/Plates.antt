@@ -50,6 +50,11 @@ abbrev pub litAfter : List Strike → (Dot → Bool) → Dot → Bool
 litAfter [] lit p = lit p
 litAfter (k ∷ ks) lit p = litAfter ks (struck k lit) p
 
+-- strikes of which each is at a dot that f admits
+abbrev pub AllIn : (Dot → Bool) → List Strike → Type 0
+AllIn f [] = Unit {0}
+AllIn f (k ∷ ks) = (f (k .0) ≡ true) × AllIn f ks
+
 -- the meaning n is m after just these strikes: each inked its dot and took one shot
 pub record After (ks : List Strike) (m n : Meaning) : Type 0 where
   pub window : n .window ≡ m .window
