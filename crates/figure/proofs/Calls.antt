@@ -1,0 +1,80 @@
+-- A figure's call: count, compare, strike.
+use mathlib.Core.Path.{_≡_, refl, sym, ap, subst, _∙_}
+use mathlib.Core.Bool.{Bool, true, false, _&&_, cond}
+use mathlib.Core.List.{List, [], _∷_}
+use mathlib.Core.Logic.{inl, inr}
+use Prim.Native.Nat.{ℕ, zero, suc, _+_, _≤_, _<_, _^_, max}
+use native.Mathlib.Omega.{arith}
+use lib.Dec.{leb}
+use lib.ListN.{length, take}
+use Rattle.std.specs.declared.option.Option.{Option}
+use Rattle.std.specs.declared.option.Option.the-variants.{None}
+use Rattle.std.proofs.shelf.Lists.{take-all}
+use Rattle.std.proofs.shelf.Tests.{cond-true, cond-false, le-leb, lt-leb, and-from}
+use Rattle.plate.specs.declared.Ink.{Ink}
+use Rattle.plate.specs.declared.Window.{Window}
+use Rattle.plate.specs.World.{Dot, inside, world}
+use Rattle.plate.specs.Answers.{Answer, done, refused}
+use Rattle.plate.specs.Plates.{Strike, Layer, Meaning, Laws}
+use Rattle.plate.specs.Windows.{world-parts}
+use Rattle.figure.specs.Drawing.{visible, inkedWith, figureAnswer, figureStrikes}
+use Rattle.figure.specs.Lines.{longer, lineDot, lineDots, dotsFrom, lineCause}
+use Rattle.figure.proofs.Crossings.{gap-few}
+
+cond-few : (b : Bool) (p : Dot) (ps : List Dot) (n : ℕ) → length ps ≤ n → length (cond b (p ∷ ps) ps) ≤ suc n
+cond-few true p ps n h = omega arith
+cond-few false p ps n h = omega arith
+
+visible-few : (w : Window) (ps : List Dot) → length (visible w ps) ≤ length ps
+visible-few w [] = omega arith
+visible-few w (p ∷ ps) = cond-few (inside w p) p (visible w ps) (length ps) (visible-few w ps)
+
+dots-length : (dot : ℕ → Dot) (k n : ℕ) → length (dotsFrom dot k n) ≡ n
+dots-length dot k zero = refl
+dots-length dot k (suc n) = ap suc (dots-length dot (suc k) n)
+
+-- the dots of a line can be counted
+pub line-few : (w : Window) (p q : Dot) → world p ≡ true → world q ≡ true → length (visible w (lineDots p q)) < 2 ^ 32
+unfolding lineDots
+line-few w p q f g =
+    let a = world-parts p f in
+    let b = world-parts q g in
+    let x = gap-few (p .0) (q .0) (a .0) (b .0) in
+    let y = gap-few (p .1) (q .1) (a .1) (b .1) in
+    let v = visible-few w (lineDots p q) in
+    let n : length (lineDots p q) ≡ longer p q + 1 = dots-length (lineDot p q) 0 (longer p q + 1) in
+    omega arith
+
+pub no-cause : (p q : Dot) → world p ≡ true → world q ≡ true → lineCause p q ≡ None
+no-cause p q f g = cond-true (world p && world q) None _ (and-from (world p) (world q) f g)
+
+module _ {Q : Type 0} {window : Q → Window} {lit : Q → Dot → Bool} {shots : Q → ℕ} {strikes : Q → List Strike → Q → Type 0} {layers : Q → List Layer} {floor : Q → Meaning} (h : Laws window lit shots strikes layers floor) where
+  -- what a call answered, and what the plate went through
+  pub record Called (s t : Q) (cause : Option ℕ) (dots : List Dot) (ink : Ink) (told : Answer ℕ) : Type 0 where
+    pub answer : told ≡ figureAnswer cause dots (window s) (shots s)
+    pub history : strikes s (figureStrikes cause dots (window s) (shots s) ink) t
+
+  module _ (s t u : Q) (cause : Option ℕ) (dots : List Dot) (ink : Ink) (seen n : ℕ) (none : cause ≡ None) (st : strikes s [] t) (tu : strikes t [] u) (is : seen ≡ length (visible (window s) dots)) (left : n ≡ shots t) where
+    still : strikes s [] u
+    still = h .join s t u [] [] st tu
+
+    same-shots : shots s ≡ n
+    same-shots = let a : shots s ≡ 0 + shots t = h .after s t [] st .shots in omega arith
+
+    pub too-few : n < seen → Called s u cause dots ink (refused 22)
+    too-few less =
+        let e = same-shots in
+        let l : leb (length (visible (window s) dots)) (shots s) ≡ false = lt-leb (length (visible (window s) dots)) (shots s) (omega arith) in
+        subst (λ o. Called s u o dots ink (refused 22)) (sym none) (record { answer = simp l; history = simp l still })
+
+    pub struck-all : (v : Q) → seen ≤ n → strikes u (inkedWith ink (take (shots u) (visible (window u) dots))) v → Called s v cause dots ink (done seen)
+    struck-all v enough uv =
+        let e = same-shots in
+        let b : shots t ≡ 0 + shots u = h .after t u [] tu .shots in
+        let w : window u ≡ window s = h .after s u [] still .window in
+        let l : leb (length (visible (window s) dots)) (shots s) ≡ true = le-leb (length (visible (window s) dots)) (shots s) (omega arith) in
+        let all : take (shots u) (visible (window u) dots) ≡ visible (window s) dots = ap (λ x. take (shots u) (visible x dots)) w ∙ take-all (shots u) (visible (window s) dots) (omega arith) in
+        subst (λ o. Called s v o dots ink (done seen)) (sym none) (record {
+          answer = simp l (ap done is);
+          history = simp l (subst (λ zs. strikes s (inkedWith ink zs) v) all (h .join s u v [] (inkedWith ink (take (shots u) (visible (window u) dots))) still uv));
+        })

@@ -1,0 +1,5 @@
+mod Strokes
+mod Crossings
+mod Walks
+mod Calls
+mod Once

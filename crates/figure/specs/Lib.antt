@@ -1,0 +1,4 @@
+pub mod Drawing
+pub mod Visits
+pub mod VisitorLaws
+pub mod Lines
