@@ -2,7 +2,7 @@
 ghost use mathlib.Core.Path.{_≡_};
 ghost use mathlib.Core.Bool.{true};
 ghost use mathlib.Core.List.{List, [], _∷_};
-ghost use Prim.Native.Nat.{ℕ, _+_, _≤_, max};
+ghost use Prim.Native.Nat.{ℕ, _+_, _*_, _≤_, _<_, max};
 ghost use denote.Ref.{now};
 ghost use lib.ListN.{length, take};
 ghost use Rattle.plate.specs.World.{Dot, within, world};
@@ -57,7 +57,8 @@ impl<P: Plate> Visitor for Counter<'_, P> as CounterVisitor {
     ghost laws = { counter-laws (λ s. s .plate) (P·Plate .laws) (λ s. s .seen) };
 
     fn visit(&mut self, x: i32, y: i32) {
-        if self.plate.ask(x, y).is_some() {
+        let shown = self.plate.ask(x, y).is_some();
+        if shown {
             self.seen = self.seen.saturating_add(1);
         }
     }
@@ -82,7 +83,15 @@ impl<P: Plate> Visitor for Striker<'_, P> as StrikerVisitor {
     }
 }
 
-// The steps along the shorter difference when k of the longer are made; the product passes 32 bits.
+// What a division by twice the longer difference rounds to the nearest, halves upward; it passes 32 bits.
+fn rounding_sum(long: u32, short: u32, k: u32) -> u64
+    requires { ⌜ (0 < long) × (long ≤ 65534) × (short ≤ long) × (k ≤ long) ⌝ }
+    ensures { λ r. ⌜ r ≡ 2 * k * short + long ⌝ }
+{
+    2 * k as u64 * short as u64 + long as u64
+}
+
+// The steps along the shorter difference when k of the longer are made.
 fn steps_across(long: u32, short: u32, k: u32) -> u32
     requires { ⌜ (long ≤ 65534) × (short ≤ long) × (k ≤ long) ⌝ }
     ensures value { λ r. ⌜ r ≡ across long short k ⌝ }
@@ -91,8 +100,7 @@ fn steps_across(long: u32, short: u32, k: u32) -> u32
     if long == 0 {
         return 0;
     }
-    let sum = 2 * k as u64 * short as u64 + long as u64;
-    (sum / (2 * long as u64)) as u32
+    (rounding_sum(long, short, k) / (2 * long as u64)) as u32
 }
 
 // Some steps from one number of the world toward another.

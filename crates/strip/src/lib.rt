@@ -6,7 +6,7 @@ ghost use mathlib.Core.List.{[]};
 ghost use mathlib.Core.Bool.{false};
 ghost use Prim.Native.Nat.{ℕ, _-_, min};
 ghost use denote.Ref.{now, name};
-ghost use Rattle.plate.specs.World.{windowOf};
+ghost use Rattle.plate.specs.World.{inside, windowOf};
 ghost use Rattle.plate.specs.Plates.{struck, meaning};
 ghost use Rattle.strip.specs.Strips.{places, kept, litBy, stripMeaning, StripStrikes};
 ghost use Rattle.strip.specs.StripLaws.{strip-laws};
@@ -56,6 +56,13 @@ impl<'a> Strip<'a> {
             used: 0,
         }
     }
+
+    fn shows(&self, x: i32, y: i32) -> bool
+        ensures { λ r. ⌜ r ≡ inside (windowOf (now (self .entry) .bounds)) (x, y) ⌝ }
+    {
+        let window = self.bounds.made();
+        window.contains(x, y)
+    }
 }
 
 // How many of the places that a strip may use are unused.
@@ -101,7 +108,7 @@ pub impl Plate for Strip<'_> as StripPlate {
     }
 
     fn ask(&mut self, x: i32, y: i32) -> Option<bool> {
-        if self.bounds.made().contains(x, y) {
+        if self.shows(x, y) {
             let used = self.used.min(self.records.len());
             Some(lit_by(&mut self.records[0..used], x, y))
         } else {
@@ -110,7 +117,7 @@ pub impl Plate for Strip<'_> as StripPlate {
     }
 
     fn strike(&mut self, x: i32, y: i32, ink: Ink) -> Result<(), StrikeRefusal> {
-        if !self.bounds.made().contains(x, y) {
+        if !self.shows(x, y) {
             return Err(StrikeRefusal::Outside);
         }
         if unused(self.records.len(), self.used) == 0 {

@@ -12,15 +12,14 @@ use Rattle.strip.specs.Strips.{litBy}
 use Rattle.strip.proofs.Records.{take-used}
 use Rattle.strip.proofs.StripPlate.ask.Needs as need
 
-pub returns-then-contains : need.returns-then-contains
-returns-then-contains c =
+pub returns-then-shows : need.returns-then-shows
+returns-then-shows c =
     let fx = c .fits .x in
     let fy = c .fits .y in
     let s = c .args .self .now in
     let rs = s .records .now in
     let lit = simp toZ-ofZ at (c .lit-by .ensures .value) in
-    let shown = simp toZ-ofZ at (c .contains .ensures) in
-    let is = ap (λ w. inside w (c .args .x, c .args .y)) (sym (c .made .ensures)) ∙ sym shown ∙ c .if-contains .taken in
+    let is = sym (simp toZ-ofZ at (c .shows .ensures)) ∙ c .if-shows .taken in
     let n = c .min-used .result in
     record {
       value = ap Some (lit ∙ ap (λ zs. litBy zs (c .args .x, c .args .y)) (take-used rs (s .used) n (c .min-used .ensures))) ∙ sym (cond-true (inside (windowOf (s .bounds)) (c .args .x, c .args .y)) (Some (litBy (take (s .used) rs) (c .args .x, c .args .y))) None is);
