@@ -12,7 +12,7 @@ use lib.Seq.{sets, sets-eq}
 use Rattle.std.specs.Written.{decimal}
 use Rattle.std.proofs.shelf.Decimals.{decimal-digit, decimal-step}
 use Rattle.std.proofs.shelf.Lists.{at-drop-more, at-drop-all}
-use Rattle.std.proofs.shelf.Tests.{leb-true, cond-true}
+use Rattle.std.proofs.shelf.Tests.{leb-true, lt-leb, cond-true, cond-false}
 use Rattle.plate.specs.Answers.{Answer, done, refused}
 use Rattle.report.specs.declared.Piece.{Piece}
 use Rattle.report.specs.Lines.{lineAnswer, written}
@@ -38,6 +38,13 @@ whole-line line bytes t =
     sets-eq line bytes 0 (omega arith)
     ∙ ap (λ k. line ++ drop k bytes) (zero-add (length line))
     ∙ sym (cond-true (leb (length line) (length bytes)) (line ++ drop (length line) bytes) bytes t)
+
+-- a line for which there are too few bytes
+pub short-answer : (line bytes : List ℕ) → length bytes < length line → refused 11 ≡ lineAnswer line bytes
+short-answer line bytes h = sym (cond-false (leb (length line) (length bytes)) (done (length line)) (refused 11) (lt-leb (length line) (length bytes) h))
+
+pub short-line : (line bytes : List ℕ) → length bytes < length line → bytes ≡ written line bytes
+short-line line bytes h = sym (cond-false (leb (length line) (length bytes)) (line ++ drop (length line) bytes) bytes (lt-leb (length line) (length bytes) h))
 
 -- a number below ten is one digit, and any other the digits of its tenth and then its last one
 pub length-one : (n : ℕ) → n < 10 → length (decimal n) ≡ 1

@@ -3,15 +3,17 @@ ghost use mathlib.Core.Bool.{true};
 ghost use mathlib.Core.List.{[]};
 ghost use Prim.Native.Nat.{ℕ, _+_, _<_, _≤_};
 ghost use lib.Dec.{leb};
+ghost use lib.IntN.{pos, _+ℤ_};
 ghost use lib.ListN.{length};
 ghost use lib.Seq.{sets};
 ghost use Rattle.std.specs.Written.{decimal};
 ghost use Rattle.plate.specs.World.{inside};
 ghost use Rattle.plate.specs.Answers.{told};
-ghost use Rattle.report.specs.Lines.{printNumber, header, refusalLine, lineAnswer, written, mark, marks};
+ghost use Rattle.report.specs.Lines.{printNumber, header, refusalLine, lineAnswer, written, mark, marks, breadth, rowAnswer, rowWritten};
 ghost use Rattle.report.specs.Pieces.{said, saidAll};
 use plate::Plate;
 use plate::Refusal;
+use plate::Window;
 
 // Why a line was not written.
 #[derive(Clone, Copy)]
@@ -163,4 +165,43 @@ fn mark_at<P: Plate>(plate: &mut P, x: i32, y: i32) -> u8
         Some(true) => b'#',
         _ => b'.',
     }
+}
+
+// Marks the dots from (x, y) to the right.
+fn put_marks<P: Plate>(plate: &mut P, mut x: i32, y: i32, count: usize, out: &mut [u8])
+    requires dots { ⌜ ((k : ℕ) → k < count → inside (P·Plate .window (now plate)) (x +ℤ pos k, y) ≡ true) ⌝ }
+    requires room { ⌜ count ≤ length (now out) ⌝ }
+    ensures bytes { λ _. ⌜ now (out .exit) ≡ sets (now (out .entry)) 0 (marks (P·Plate .lit (now (plate .entry))) count x y) ⌝ }
+    ensures same { λ _. ⌜ P·Plate .strikes (now (plate .entry)) [] (now (plate .exit)) ⌝ }
+{
+    for at in 0..count {
+        out[at] = mark_at(plate, x, y);
+        x += 1;
+    }
+}
+
+// How many dots each row of a window has.
+fn row_len(window: Window) -> usize
+    ensures { λ r. ⌜ r ≡ breadth window ⌝ }
+{
+    window.right.abs_diff(window.left) as usize + 1
+}
+
+// Writes the row y of a plate, from the left of its window to its right.
+pub fn write_row<P: Plate>(plate: &mut P, y: i32, out: &mut [u8]) -> Result<usize, PrintRefusal>
+    ensures answer { λ r. ⌜ told printNumber r ≡ rowAnswer (P·Plate .window (now (plate .entry))) (P·Plate .lit (now (plate .entry))) y (now (out .entry)) ⌝ }
+    ensures bytes { λ _. ⌜ now (out .exit) ≡ rowWritten (P·Plate .window (now (plate .entry))) (P·Plate .lit (now (plate .entry))) y (now (out .entry)) ⌝ }
+    ensures same { λ _. ⌜ P·Plate .strikes (now (plate .entry)) [] (now (plate .exit)) ⌝ }
+{
+    let window = plate.window();
+    if !window.contains(window.left, y) {
+        return Err(PrintRefusal::Outside);
+    }
+    let count = row_len(window);
+    if out.len() <= count {
+        return Err(PrintRefusal::TooShort);
+    }
+    put_marks(plate, window.left, y, count, out);
+    out[count] = b'\n';
+    Ok(count + 1)
 }
