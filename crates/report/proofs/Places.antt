@@ -2,16 +2,16 @@
 use mathlib.Core.Path.{_≡_, refl, sym, ap, _∙_}
 use mathlib.Core.Bool.{true}
 use mathlib.Core.List.{List, [], _∷_, _++_}
-use Prim.Native.Nat.{ℕ, suc, _+_, _/_, _%_, _^_, _≤_, _<_}
+use Prim.Native.Nat.{ℕ, suc, _+_, _-_, _/_, _%_, _^_, _≤_, _<_}
 use native.Mathlib.Nat.{add-zero, zero-add}
-use native.Mathlib.Numerals.{add-one}
 use native.Mathlib.Omega.{arith}
+use borrow.Rule.Slice.PartMut.{putMid}
 use lib.Dec.{leb}
-use lib.ListN.{length, getD, set, drop, length-append}
+use lib.ListN.{length, getD, set, take, drop, length-append}
 use lib.Seq.{sets, sets-eq}
 use Rattle.std.specs.Written.{decimal}
 use Rattle.std.proofs.shelf.Decimals.{decimal-digit, decimal-step}
-use Rattle.std.proofs.shelf.Lists.{at-drop-more, at-drop-all}
+use Rattle.std.proofs.shelf.Lists.{append-assoc, drop-drop, at-drop-more, at-drop-all}
 use Rattle.std.proofs.shelf.Tests.{leb-true, lt-leb, cond-true, cond-false}
 use Rattle.plate.specs.Answers.{Answer, done, refused}
 use Rattle.report.specs.declared.Piece.{Piece}
@@ -22,11 +22,14 @@ pub sets-join : (vs ws l : List ℕ) (i : ℕ) → sets l i (vs ++ ws) ≡ sets 
 sets-join [] ws l i = ap (λ k. sets l k ws) (sym (add-zero i))
 sets-join (v ∷ vs) ws l i = sets-join vs ws (set l i v) (suc i) ∙ ap (λ k. sets (sets (set l i v) (suc i) vs) k ws) (omega arith)
 
-pub sets-next : (vs l : List ℕ) (at i : ℕ) → i < length vs → sets (set l at (getD vs i 0)) (at + 1) (drop (i + 1) vs) ≡ sets l at (drop i vs)
-sets-next vs l at i h = ap (λ k. sets (set l at (getD vs i 0)) k (drop (i + 1) vs)) (add-one at) ∙ sym (at-drop-more (λ ws. sets l at ws) vs i 0 h)
-
-pub sets-last : (vs l : List ℕ) (at i : ℕ) → length vs ≤ i → sets l at (drop i vs) ≡ l
-sets-last vs l at i h = at-drop-all (λ ws. sets l at ws) vs i h
+-- a text copied into its place
+pub sets-copied : (l vs ws : List ℕ) (at : ℕ) → at + length vs ≤ length l → ws ≡ vs → putMid at (at + length vs - at) l ws ≡ sets l at vs
+sets-copied l vs ws at h e =
+    let k : at + length vs - at ≡ length vs = omega arith in
+    let d = drop-drop (length vs) at l in
+    let p = append-assoc (take at l) vs (drop (at + length vs) l) in
+    let q = sets-eq vs l at h in
+    cc
 
 -- a line that fits, written from the start on
 pub whole-answer : (line bytes : List ℕ) (n : ℕ) → leb (length line) (length bytes) ≡ true → n ≡ length line → done n ≡ lineAnswer line bytes

@@ -104,13 +104,14 @@ pub row-whole : (w : Window) (lit : Dot → Bool) (y : ℤ) (bytes : List ℕ) (
 row-whole w lit y bytes n t e h =
     let d = length-row w lit y in
     let f = le-leb (length (rowLine w lit y)) (length bytes) (omega arith) in
-    let k : 0 + length (marks lit (breadth w) (w .left) y) ≡ breadth w = zero-add (length (marks lit (breadth w) (w .left) y)) ∙ length-marks lit (breadth w) (w .left) y in
-    ( whole-answer (rowLine w lit y) bytes (n + 1) f (omega arith) ∙ row-answer w lit y bytes t
-    , ap (λ m. set (sets bytes 0 (marks lit m (w .left) y)) m 10) e
-      ∙ ap (λ m. set (sets bytes 0 (marks lit (breadth w) (w .left) y)) m 10) (sym k)
-      ∙ sym (sets-join (marks lit (breadth w) (w .left) y) (10 ∷ []) bytes 0)
-      ∙ whole-line (rowLine w lit y) bytes f
-      ∙ row-written w lit y bytes t)
+    let k : 0 + length (marks lit (breadth w) (w .left) y) ≡ breadth w = zero-add (length (marks lit (breadth w) (w .left) y)) ∙ length-marks lit (breadth w) (w .left) y in (
+      whole-answer (rowLine w lit y) bytes (n + 1) f (omega arith) ∙ row-answer w lit y bytes t,
+      ap (λ m. set (sets bytes 0 (marks lit m (w .left) y)) m 10) e
+          ∙ ap (λ m. set (sets bytes 0 (marks lit (breadth w) (w .left) y)) m 10) (sym k)
+          ∙ sym (sets-join (marks lit (breadth w) (w .left) y) (10 ∷ []) bytes 0)
+          ∙ whole-line (rowLine w lit y) bytes f
+          ∙ row-written w lit y bytes t,
+    )
 
 -- the dots of a row, asked after other questions
 pub row-asked : {S : Type 0} {window : S → Window} {lit : S → Dot → Bool} {shots : S → ℕ} {strikes : S → List Strike → S → Type 0} {layers : S → List Layer} {floor : S → Meaning}

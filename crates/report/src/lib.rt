@@ -1,3 +1,7 @@
+// The printed lines of the marking head: a header, a refusal, and a row of any plate.
+// Each call writes one line at the start of the bytes that it is lent and answers the line's length, line feed included;
+// the bytes after it keep what they held, and a refused call alters none. No row is printed by striking.
+// Read on in specs/Lines.antt, which has every line byte for byte, and in docs/PRINTING.md.
 ghost use mathlib.Core.Path.{_≡_};
 ghost use mathlib.Core.Bool.{true};
 ghost use mathlib.Core.List.{[]};
@@ -54,16 +58,14 @@ fn put_number(out: &mut [u8], at: usize, n: u32) -> usize
     last + 1
 }
 
-fn put_text(out: &mut [u8], mut at: usize, text: &[u8]) -> usize
+fn put_text(out: &mut [u8], at: usize, text: &[u8]) -> usize
     requires { ⌜ at + length (now text) ≤ length (now out) ⌝ }
     ensures after { λ r. ⌜ r ≡ at + length (now (text .entry)) ⌝ }
     ensures bytes { λ _. ⌜ now (out .exit) ≡ sets (now (out .entry)) at (now (text .entry)) ⌝ }
 {
-    for byte in text {
-        out[at] = *byte;
-        at += 1;
-    }
-    at
+    let end = at + text.len();
+    out[at..end].copy_from_slice(text);
+    end
 }
 
 // A piece of a line: a text as it stands, or a number in base ten.
@@ -124,7 +126,12 @@ fn write_line(out: &mut [u8], pieces: &[Piece]) -> Result<usize, PrintRefusal>
 }
 
 // Writes "width height shots".
-pub fn write_header(out: &mut [u8], width: u32, height: u32, shots: u32) -> Result<usize, PrintRefusal>
+pub fn write_header(
+    out: &mut [u8],
+    width: u32,
+    height: u32,
+    shots: u32,
+) -> Result<usize, PrintRefusal>
     ensures answer { λ r. ⌜ told printNumber r ≡ lineAnswer (header width height shots) (now (out .entry)) ⌝ }
     ensures bytes { λ _. ⌜ now (out .exit) ≡ written (header width height shots) (now (out .entry)) ⌝ }
 {
@@ -140,7 +147,12 @@ pub fn write_header(out: &mut [u8], width: u32, height: u32, shots: u32) -> Resu
 }
 
 // Writes "refused N line L column C", N being the number of the cause.
-pub fn write_refusal<R: Refusal>(out: &mut [u8], cause: &R, line: u32, column: u32) -> Result<usize, PrintRefusal>
+pub fn write_refusal<R: Refusal>(
+    out: &mut [u8],
+    cause: &R,
+    line: u32,
+    column: u32,
+) -> Result<usize, PrintRefusal>
     ensures answer { λ r. ⌜ told printNumber r ≡ lineAnswer (refusalLine (R·Refusal .number (now (cause .entry))) line column) (now (out .entry)) ⌝ }
     ensures bytes { λ _. ⌜ now (out .exit) ≡ written (refusalLine (R·Refusal .number (now (cause .entry))) line column) (now (out .entry)) ⌝ }
 {
@@ -204,4 +216,41 @@ pub fn write_row<P: Plate>(plate: &mut P, y: i32, out: &mut [u8]) -> Result<usiz
     put_marks(plate, window.left, y, count, out);
     out[count] = b'\n';
     Ok(count + 1)
+}
+
+#[cfg(test)]
+mod tests {
+    use super::*;
+    use plate::StrikeRefusal;
+    use plate::StrikeRefusalNumber;
+    use std::test::*;
+
+    #[test]
+    fn header_fills_its_bytes() -> Result<(), Fail> {
+        let mut out = [b'-'; 12];
+        let len = write_header(&mut out, 120, 80, 4000).ok().ok_or("refused")?;
+        check_eq(len, 12)?;
+        check_eq(&out, b"120 80 4000\n")
+    }
+
+    #[test]
+    fn a_byte_less_is_too_short() -> Result<(), Fail> {
+        let mut out = [b'-'; 11];
+        let Err(cause) = write_header(&mut out, 120, 80, 4000) else {
+            return Err(Fail::new("written"));
+        };
+        check_eq(cause.number(), 11)?;
+        check_eq(&out, b"-----------")
+    }
+
+    #[test]
+    fn refusal_keeps_the_bytes_after_it() -> Result<(), Fail> {
+        let mut out = [b'-'; 30];
+        let cause = StrikeRefusal::Outside;
+        let len = write_refusal(&mut out, &cause, 7, 10)
+            .ok()
+            .ok_or("refused")?;
+        check_eq(len, 28)?;
+        check_eq(&out, b"refused 20 line 7 column 10\n--")
+    }
 }
