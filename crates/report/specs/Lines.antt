@@ -13,6 +13,7 @@ use Rattle.plate.specs.Answers.{Answer, done, refused}
 use Rattle.report.specs.declared.PrintRefusal.{PrintRefusal}
 use Rattle.report.specs.declared.PrintRefusal.the-variants.{Outside, TooShort}
 
+-- the numbers that workshops know these refusals by
 abbrev pub printNumber : PrintRefusal → ℕ
 printNumber Outside = 20
 printNumber TooShort = 11
@@ -21,9 +22,11 @@ printNumber TooShort = 11
 abbrev feed : List ℕ
 feed = 10 ∷ []
 
+-- "width height shots"
 abbrev pub header : ℕ → ℕ → ℕ → List ℕ
 header width height shots = joined (decimal width ∷ codes " " ∷ decimal height ∷ codes " " ∷ decimal shots ∷ feed ∷ [])
 
+-- "refused N line L column C"
 abbrev pub refusalLine : ℕ → ℕ → ℕ → List ℕ
 refusalLine number line column = joined (codes "refused " ∷ decimal number ∷ codes " line " ∷ decimal line ∷ codes " column " ∷ decimal column ∷ feed ∷ [])
 
@@ -40,10 +43,11 @@ marks lit (suc n) x y = mark (lit (x, y)) ∷ marks lit n (x +ℤ pos 1) y
 abbrev pub breadth : Window → ℕ
 breadth w = natAbs (w .right -ℤ w .left) + 1
 
--- a window has a row if it has the row's first dot
+-- a window has a row if it has the row's first dot; the empty window has none
 abbrev pub hasRow : Window → ℤ → Bool
 hasRow w y = inside w (w .left, y)
 
+-- one row, from the window's left to its right
 abbrev pub rowLine : Window → (Dot → Bool) → ℤ → List ℕ
 rowLine w lit y = marks lit (breadth w) (w .left) y ++ feed
 

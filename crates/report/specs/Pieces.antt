@@ -1,4 +1,4 @@
--- What the code keeps to itself: a line as pieces.
+-- A line as the code makes it, piece by piece. No public contract cites this.
 use Prim.Native.Nat.{ℕ}
 use mathlib.Core.List.{List, map}
 use denote.Ref.{now}

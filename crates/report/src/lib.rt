@@ -1,6 +1,6 @@
 // The printed lines of the marking head: a header, a refusal, and a row of any plate.
 // Each call writes one line at the start of the bytes that it is lent and answers the line's length, line feed included;
-// the bytes after it keep what they held, and a refused call alters none. No row is printed by striking.
+// the bytes after it keep what they held, and a refused call alters none. A printed row strikes nothing.
 // Read on in specs/Lines.antt, which has every line byte for byte, and in docs/PRINTING.md.
 ghost use mathlib.Core.Path.{_≡_};
 ghost use mathlib.Core.Bool.{true};
@@ -37,6 +37,7 @@ pub impl Refusal for PrintRefusal as PrintRefusalNumber {
     }
 }
 
+// How many digits a number has.
 fn decimal_len(n: u32) -> usize
     ensures { λ r. ⌜ r ≡ length (decimal n) ⌝ }
 {
@@ -58,6 +59,7 @@ fn put_number(out: &mut [u8], at: usize, n: u32) -> usize
     last + 1
 }
 
+// Writes a text, and answers the place after it.
 fn put_text(out: &mut [u8], at: usize, text: &[u8]) -> usize
     requires { ⌜ at + length (now text) ≤ length (now out) ⌝ }
     ensures after { λ r. ⌜ r ≡ at + length (now (text .entry)) ⌝ }
@@ -97,6 +99,7 @@ impl Piece<'_> {
     }
 }
 
+// The room shrinks piece by piece, so that no sum of lengths can grow too large.
 fn all_fit(pieces: &[Piece], mut room: usize) -> bool
     ensures { λ r. ⌜ r ≡ leb (length (saidAll (now (pieces .entry)))) room ⌝ }
 {
@@ -200,6 +203,7 @@ fn row_len(window: Window) -> usize
 }
 
 // Writes the row y of a plate, from the left of its window to its right.
+// A row that the window lacks is refused before the bytes are counted.
 pub fn write_row<P: Plate>(plate: &mut P, y: i32, out: &mut [u8]) -> Result<usize, PrintRefusal>
     ensures answer { λ r. ⌜ told printNumber r ≡ rowAnswer (P·Plate .window (now (plate .entry))) (P·Plate .lit (now (plate .entry))) y (now (out .entry)) ⌝ }
     ensures bytes { λ _. ⌜ now (out .exit) ≡ rowWritten (P·Plate .window (now (plate .entry))) (P·Plate .lit (now (plate .entry))) y (now (out .entry)) ⌝ }
