@@ -3,3 +3,4 @@ mod Crossings
 mod Walks
 mod Calls
 mod Once
+pub mod Totals

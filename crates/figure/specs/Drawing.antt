@@ -46,3 +46,8 @@ figureAnswer None dots w shots = cond (leb (length (visible w dots)) shots) (don
 abbrev pub figureStrikes : Option ℕ → List Dot → Window → ℕ → Ink → List Strike
 figureStrikes (Some cause) dots w shots ink = []
 figureStrikes None dots w shots ink = cond (leb (length (visible w dots)) shots) (inkedWith ink (visible w dots)) []
+
+-- the dots that an answer reports: a refused figure reports none
+abbrev pub reported : Answer ℕ → ℕ
+reported (done n) = n
+reported (refused number) = 0
