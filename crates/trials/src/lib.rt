@@ -1,10 +1,18 @@
-// Examples of plates and figures at work, as tests: each is proved to end safely, and then run.
+// Examples of plates, figures and printed lines together, as tests: each is proved to end safely, and then run.
+// What they show is told in docs/PLATES.md, docs/FIGURES.md and docs/PRINTING.md.
 #[cfg(test)]
 mod tests {
+    use bitmap::Bitmap;
+    use bitmap::BitmapPlate;
+    use figure::FigureRefusalNumber;
     use figure::line;
     use plate::Ink;
     use plate::Plate;
+    use plate::Refusal;
+    use plate::StrikeRefusalNumber;
     use plate::Window;
+    use report::PrintRefusalNumber;
+    use report::write_row;
     use std::test::*;
     use strip::Record;
     use strip::Strip;
@@ -18,24 +26,27 @@ mod tests {
         }
     }
 
+    fn bounds() -> Window {
+        Window {
+            left: -9,
+            top: -9,
+            right: 9,
+            bottom: 9,
+        }
+    }
+
     fn is_at(record: Record, x: i32, y: i32) -> bool {
         record.x == x && record.y == y
     }
 
+    // A crossing halfway between two dots goes away from the start.
     #[test]
     fn line_and_back() -> Result<(), Fail> {
         let mut records = [blank(); 10];
         {
-            let bounds = Window {
-                left: -9,
-                top: -9,
-                right: 9,
-                bottom: 9,
-            };
-            let mut strip = Strip::new(bounds, &mut records);
+            let mut strip = Strip::new(bounds(), &mut records);
             check(matches!(line(&mut strip, (0, 0), (4, 2), Ink::Light), Ok(5)))?;
             check(matches!(line(&mut strip, (4, 2), (0, 0), Ink::Clear), Ok(5)))?;
-            check(strip.shots() == 0)?;
         }
         check(is_at(records[0], 0, 0))?;
         check(is_at(records[1], 1, 1))?;
@@ -47,5 +58,44 @@ mod tests {
         check(is_at(records[7], 2, 1))?;
         check(is_at(records[8], 1, 0))?;
         check(is_at(records[9], 0, 0))
+    }
+
+    // The last place takes one strike, and then there are no shots.
+    #[test]
+    fn strip_is_full_at_its_last_place() -> Result<(), Fail> {
+        let mut records = [blank(); 2];
+        let mut strip = Strip::new(bounds(), &mut records);
+        check(strip.strike(1, 1, Ink::Light).is_ok())?;
+        check(strip.strike(1, 1, Ink::Flip).is_ok())?;
+        check_eq(strip.shots(), 0)?;
+        check_eq(strip.ask(1, 1), Some(false))?;
+        let Err(outside) = strip.strike(10, 1, Ink::Light) else {
+            return Err(Fail::new("struck outside"));
+        };
+        check_eq(outside.number(), 20)?;
+        let Err(spent) = strip.strike(1, 1, Ink::Light) else {
+            return Err(Fail::new("struck without shots"));
+        };
+        check_eq(spent.number(), 21)
+    }
+
+    // 22 is judged by the dots that the window shows.
+    #[test]
+    fn line_through_a_bitmap() -> Result<(), Fail> {
+        let mut bytes = [0u8; 4];
+        let mut out = [b'-'; 8];
+        let mut bitmap = Bitmap::new(6, 4, 5, &mut bytes);
+        check(matches!(line(&mut bitmap, (-3, 1), (4, 1), Ink::Light), Ok(5)))?;
+        let Err(few) = line(&mut bitmap, (-3, 2), (4, 2), Ink::Light) else {
+            return Err(Fail::new("struck without shots"));
+        };
+        check_eq(few.number(), 22)?;
+        check(matches!(line(&mut bitmap, (9, 9), (20, 9), Ink::Light), Ok(0)))?;
+        check(matches!(write_row(&mut bitmap, 1, &mut out), Ok(7)))?;
+        check_eq(&out, b"#####.\n-")?;
+        let Err(outside) = write_row(&mut bitmap, 4, &mut []) else {
+            return Err(Fail::new("printed a row outside"));
+        };
+        check_eq(outside.number(), 20)
     }
 }
