@@ -22,7 +22,7 @@ use Rattle.plate.specs.Plates.{Strike, Laws, After, Framed, AllIn, same, struck
 use Rattle.plate.specs.Windows.{le-true, orders-world, inside-orders, inside-empty, same-orders, orders-same, framed-empty}
 use Rattle.plate.specs.Bare.{litAfter-at, all-in-join, bare-laws}
 use Rattle.bitmap.specs.declared.Bitmap.{Bitmap}
-use Rattle.bitmap.specs.Bitmaps.{rowBytes, side, sized, bitmapWindow, byteOf, bitOf, bit, worth, inkedByte, bitmapLit, bitmapMeaning, burn, burnt, BitmapStrikes}
+use Rattle.bitmap.specs.Bitmaps.{rowBytes, side, sized, bitmapWindow, byteOf, bitOf, bit, worth, inkedByte, bitmapLit, bitmapMeaning, burn, burnt, BitmapStrikes, SparesKept, SparesStay}
 
 -- a bit as a number
 abbrev digit : Bool → ℕ
@@ -285,3 +285,44 @@ pub bitmap-laws : Laws (λ s. bitmapMeaning s .window) (λ s. bitmapMeaning s .l
 bitmap-laws =
     bare-laws (λ s. bitmapMeaning s .window) (λ s. bitmapMeaning s .lit) (λ s. bitmapMeaning s .shots) BitmapStrikes bitmap-none bitmap-join bitmap-after
     (λ s. framed-bitmap (s .width) (s .height) (length (now (s .bytes))))
+
+-- the byte of a dot that a bitmap shows is one of its rows
+row-lt : (width height bytes : ℕ) (p : Dot) → Shown width height bytes p → byteOf width p < height * rowBytes width
+unfolding byteOf
+row-lt width height bytes p s = omega (arith, mul-add-lt (natAbs (p .1)) (rowBytes width) (natAbs (p .0) / 8) height (s .down) (column width height bytes p s))
+
+past-kept : (width height : ℕ) (ks : List Strike) (bytes : List ℕ) → AllIn (inside (bitmapWindow width height (length bytes))) ks → (i : ℕ) → height * rowBytes width ≤ i → getD (burnt width ks bytes) i 0 ≡ getD bytes i 0
+past-kept width height [] bytes h i far = refl
+past-kept width height (k ∷ ks) bytes h i far =
+    let next : List ℕ = burn width k bytes in
+    let e : length bytes ≡ length next = sym (simp length-set) in
+    let lt = row-lt width height (length bytes) (k .0) (shown width height (length bytes) (k .0) (h .0)) in
+    let ne : i ≢ byteOf width (k .0) = omega arith in
+    past-kept width height ks next (subst (λ n. AllIn (inside (bitmapWindow width height n)) ks) e (h .1)) i far
+    ∙ getD-set-other bytes (byteOf width (k .0)) i (inkedByte (k .1) (getD bytes (byteOf width (k .0)) 0) (bitOf (k .0))) 0 ne
+
+-- a bit right of the last dot is no dot's
+not-spare : (width height bytes x y : ℕ) (p : Dot) → Shown width height bytes p → width ≤ x → x < 8 * rowBytes width → byteOf width (pos x, pos y) ≡ byteOf width p → bitOf (pos x, pos y) ≡ bitOf p → ⊥
+unfolding byteOf bitOf
+not-spare width height bytes x y p s far near e b =
+    let row : ℕ = rowBytes width in
+    let in-row : x / 8 < row = omega arith in
+    let ey : y ≡ natAbs (p .1) = sym (div-mul-add y row (x / 8) in-row) ∙ ap (λ n. n / row) e ∙ div-mul-add (natAbs (p .1)) row (natAbs (p .0) / 8) (column width height bytes p s) in
+    let ec : x / 8 ≡ natAbs (p .0) / 8 = omega (arith, ap (λ n. n * row) ey) in
+    let under = s .across in
+    omega arith
+
+spare-kept : (width height : ℕ) (ks : List Strike) (bytes : List ℕ) → AllIn (inside (bitmapWindow width height (length bytes))) ks → (x y : ℕ) → width ≤ x → x < 8 * rowBytes width → bitmapLit width (burnt width ks bytes) (pos x, pos y) ≡ bitmapLit width bytes (pos x, pos y)
+spare-kept width height [] bytes h x y far near = refl
+spare-kept width height (k ∷ ks) bytes h x y far near =
+    let next : List ℕ = burn width k bytes in
+    let e : length bytes ≡ length next = sym (simp length-set) in
+    let s = shown width height (length bytes) (k .0) (h .0) in
+    spare-kept width height ks next (subst (λ n. AllIn (inside (bitmapWindow width height n)) ks) e (h .1)) x y far near
+    ∙ bit-missed width k bytes (byteOf width (pos x, pos y)) (bitOf (pos x, pos y)) (byte-lt width height (length bytes) (k .0) s) (not-spare width height (length bytes) x y (k .0) s far near)
+
+pub spares-stay : (s : Bitmap) → SparesStay s
+spares-stay s ks t a = record {
+  past = λ i far. ap (λ bytes. getD bytes i 0) (a .bytes) ∙ past-kept (s .width) (s .height) ks (now (s .bytes)) (a .visible) i far;
+  spare = λ x y far near. ap (λ bytes. bitmapLit (s .width) bytes (pos x, pos y)) (a .bytes) ∙ spare-kept (s .width) (s .height) ks (now (s .bytes)) (a .visible) x y far near;
+}

@@ -2,7 +2,7 @@
 use mathlib.Core.Path.{_≡_}
 use mathlib.Core.Bool.{Bool, true, false, _&&_, cond}
 use mathlib.Core.List.{List, [], _∷_}
-use Prim.Native.Nat.{ℕ, _+_, _-_, _*_, _/_, _%_, _^_, _<_}
+use Prim.Native.Nat.{ℕ, _+_, _-_, _*_, _/_, _%_, _^_, _≤_, _<_}
 use denote.Ref.{now, name}
 use lib.Dec.{leb, eqb}
 use lib.IntN.{pos, natAbs}
@@ -74,7 +74,7 @@ newBitmap width height shots bytes = meaning (bitmapWindow width height (length 
 
 -- the place of a dot of the window, and none outside it
 abbrev pub Placed : Option Place → Bitmap → Dot → Type 0
-Placed (Some at) s p = (inside (bitmapMeaning s .window) p ≡ true) × (at .byte ≡ byteOf (s .width) p) × (at .byte < length (now (s .bytes))) × (at .bit ≡ bitOf p) × (at .bit < 8)
+Placed (Some at) s p = (inside (bitmapMeaning s .window) p ≡ true) × (at .index ≡ byteOf (s .width) p) × (at .index < length (now (s .bytes))) × (at .shift ≡ bitOf p) × (at .shift < 8)
 Placed None s p = inside (bitmapMeaning s .window) p ≡ false
 
 -- the bytes after one strike, which inks one bit, and after strikes in order
@@ -93,3 +93,12 @@ pub record BitmapStrikes (s : Bitmap) (ks : List Strike) (t : Bitmap) : Type 0 w
   pub bytes : now (t .bytes) ≡ burnt (s .width) ks (now (s .bytes))
   pub shots : s .shots ≡ length ks + t .shots
   pub visible : AllIn (inside (bitmapWindow (s .width) (s .height) (length (now (s .bytes))))) ks
+
+-- what no strike reaches: the bytes past the last row, and in each row the bits right of the last dot, as far as the row's bytes go
+pub record SparesKept (s t : Bitmap) : Type 0 where
+  pub past : (i : ℕ) → s .height * rowBytes (s .width) ≤ i → getD (now (t .bytes)) i 0 ≡ getD (now (s .bytes)) i 0
+  pub spare : (x y : ℕ) → s .width ≤ x → x < 8 * rowBytes (s .width) → bitmapLit (s .width) (now (t .bytes)) (pos x, pos y) ≡ bitmapLit (s .width) (now (s .bytes)) (pos x, pos y)
+
+-- they stay as they are, whatever strikes follow
+abbrev pub SparesStay : Bitmap → Type 0
+SparesStay s = (ks : List Strike) (t : Bitmap) → BitmapStrikes s ks t → SparesKept s t

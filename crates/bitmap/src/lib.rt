@@ -2,14 +2,14 @@
 // It promises the rules of every plate, and which bytes stand after any calls: spare bits and bytes past the last row never change.
 // Read on in specs/Bitmaps.antt and docs/PLATES.md.
 ghost use mathlib.Core.Path.{_≡_};
-ghost use mathlib.Core.Bool.{Bool, cond};
+ghost use mathlib.Core.Bool.{cond};
 ghost use mathlib.Core.List.{[]};
-ghost use Prim.Native.Nat.{ℕ, _-_, _<_, _≤_};
+ghost use Prim.Native.Nat.{_-_, _<_, _≤_};
 ghost use denote.Ref.{now, name};
 ghost use lib.IntN.{pos};
 ghost use lib.ListN.{length};
 ghost use Rattle.plate.specs.Answers.{told, done, refused};
-ghost use Rattle.bitmap.specs.Bitmaps.{bitmapNumber, rowBytes, side, sized, byteOf, bitOf, bit, inkedByte, bitmapMeaning, newBitmap, Placed, BitmapStrikes};
+ghost use Rattle.bitmap.specs.Bitmaps.{bitmapNumber, rowBytes, side, sized, byteOf, bitOf, bit, inkedByte, bitmapMeaning, newBitmap, Placed, BitmapStrikes, SparesStay};
 ghost use Rattle.bitmap.specs.BitmapLaws.{bitmap-laws};
 use plate::Ink;
 use plate::Plate;
@@ -52,11 +52,11 @@ fn is_sized(width: u32, height: u32, bytes: usize) -> bool
 }
 
 // The last of so many dots, counted from 0.
-fn last(side: u32) -> i32
-    requires { ⌜ 1 ≤ side ⌝ ∗ ⌜ side ≤ 8192 ⌝ }
-    ensures { λ r. ⌜ r ≡ pos (side - 1) ⌝ }
+fn last(n: u32) -> i32
+    requires { ⌜ 1 ≤ n ⌝ ∗ ⌜ n ≤ 8192 ⌝ }
+    ensures { λ r. ⌜ r ≡ pos (n - 1) ⌝ }
 {
-    side as i32 - 1
+    n as i32 - 1
 }
 
 // Whether bit k is one.
@@ -79,23 +79,23 @@ fn ink_bit(byte: u8, k: u32, ink: Ink) -> u8
     }
 }
 
-// Where a dot is kept: a byte, and a bit of it.
+// Where a dot is kept: the index of its byte, and how far its bit is shifted.
 #[derive(Clone, Copy)]
 struct Place {
-    byte: usize,
-    bit: u32,
+    index: usize,
+    shift: u32,
 }
 
 impl Place {
     // The numbers of a dot that a bitmap shows are never negative.
     fn of(width: u32, x: i32, y: i32) -> Place
-        ensures byte { λ r. ⌜ r .byte ≡ byteOf width (x, y) ⌝ }
-        ensures bit { λ r. ⌜ r .bit ≡ bitOf (x, y) ⌝ }
+        ensures index { λ r. ⌜ r .index ≡ byteOf width (x, y) ⌝ }
+        ensures shift { λ r. ⌜ r .shift ≡ bitOf (x, y) ⌝ }
     {
         let (column, row) = (x.unsigned_abs(), y.unsigned_abs());
         Place {
-            byte: row as usize * row_bytes(width) + column as usize / 8,
-            bit: 7 - column % 8,
+            index: row as usize * row_bytes(width) + column as usize / 8,
+            shift: 7 - column % 8,
         }
     }
 }
@@ -125,6 +125,7 @@ impl<'a> Bitmap<'a> {
         ensures lent { λ r. ⌜ name (r .bytes) ≡ name (bytes .entry) ⌝ }
         ensures bytes { λ r. ⌜ now (r .bytes) ≡ now (bytes .entry) ⌝ }
         ensures means { λ r. ⌜ bitmapMeaning r ≡ newBitmap width height shots (now (bytes .entry)) ⌝ }
+        ensures spares { λ r. ⌜ SparesStay r ⌝ }
     {
         let shots = if is_sized(width, height, bytes.len()) {
             shots
@@ -154,7 +155,7 @@ impl<'a> Bitmap<'a> {
         }
     }
 
-    // The place of a dot of the window.
+    // Where a dot of the window is kept; nowhere outside it.
     fn place(&self, x: i32, y: i32) -> Option<Place>
         ensures { λ r. ⌜ Placed r (now (self .entry)) (x, y) ⌝ }
     {
@@ -191,7 +192,7 @@ pub impl Plate for Bitmap<'_> as BitmapPlate {
 
     fn ask(&mut self, x: i32, y: i32) -> Option<bool> {
         match self.place(x, y) {
-            Some(at) => Some(is_one(self.bytes[at.byte], at.bit)),
+            Some(at) => Some(is_one(self.bytes[at.index], at.shift)),
             None => None,
         }
     }
@@ -203,8 +204,43 @@ pub impl Plate for Bitmap<'_> as BitmapPlate {
         if self.shots == 0 {
             return Err(StrikeRefusal::NoShots);
         }
-        self.bytes[at.byte] = ink_bit(self.bytes[at.byte], at.bit, ink);
+        self.bytes[at.index] = ink_bit(self.bytes[at.index], at.shift, ink);
         self.shots -= 1;
         Ok(())
+    }
+}
+
+#[cfg(test)]
+mod tests {
+    use super::*;
+    use std::test::*;
+
+    // Ten dots to a row leave six spare bits, and the fifth byte lies past two rows.
+    #[test]
+    fn inks_the_edges_of_bytes() -> Result<(), Fail> {
+        let mut bytes = [0x00, 0x3f, 0x01, 0xbf, 0x5a];
+        let mut bitmap = Bitmap::new(10, 2, 4, &mut bytes);
+        for (x, y, ink) in [
+            (7, 0, Ink::Light),
+            (8, 0, Ink::Flip),
+            (7, 1, Ink::Clear),
+            (0, 1, Ink::Flip),
+        ] {
+            check(bitmap.strike(x, y, ink).is_ok())?;
+        }
+        check_eq(bitmap.ask(8, 0), Some(true))?;
+        check_eq(bitmap.ask(10, 0), None)?;
+        check_eq(bytes, [0x01, 0xbf, 0x80, 0xbf, 0x5a])
+    }
+
+    #[test]
+    fn refuses_sizes() -> Result<(), Fail> {
+        let mut bytes = [0; 3];
+        for (width, height) in [(0, 3), (8193, 1), (9, 2)] {
+            check(Bitmap::check(width, height, &bytes).is_err())?;
+        }
+        let mut bitmap = Bitmap::new(9, 2, 5, &mut bytes);
+        check_eq(bitmap.shots(), 0)?;
+        check_eq(bitmap.window().right, 0)
     }
 }

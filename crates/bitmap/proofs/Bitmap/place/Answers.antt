@@ -17,8 +17,8 @@ returns-then-contains c =
     let fy = c .fits .y in
     let s = c .args .self .now in
     let t = simp toZ-ofZ at (c .contains .ensures) in
-    let byte = simp toZ-ofZ at (c .of .ensures .byte) in
-    let bit = simp toZ-ofZ at (c .of .ensures .bit) in
+    let index = simp toZ-ofZ at (c .of .ensures .index) in
+    let shift = simp toZ-ofZ at (c .of .ensures .shift) in
     let is : inside (bitmapMeaning s .window) (c .args .x, c .args .y) ≡ true = ap (λ w. inside w (c .args .x, c .args .y)) (sym (c .shown .ensures)) ∙ sym t ∙ c .if-contains .taken in
     let n = length (now (s .bytes)) in
-    (is, byte, subst (λ i. i < n) (sym byte) (byte-lt (s .width) (s .height) n (c .args .x, c .args .y) (shown (s .width) (s .height) n (c .args .x, c .args .y) is)), bit, omega arith)
+    (is, index, subst (λ i. i < n) (sym index) (byte-lt (s .width) (s .height) n (c .args .x, c .args .y) (shown (s .width) (s .height) n (c .args .x, c .args .y) is)), shift, omega arith)

@@ -13,9 +13,9 @@ returns c =
     let column = simp toZ-ofZ at (c .unsigned-abs-column .ensures .value) in
     let row = simp toZ-ofZ at (c .unsigned-abs-row .ensures .value) in
     record {
-      byte =
+      index =
           ap (λ n. c .unsigned-abs-row .result * n + c .unsigned-abs-column .result / 8) (c .row-bytes .ensures)
           ∙ ap (λ n. n * rowBytes (c .args .width) + c .unsigned-abs-column .result / 8) row
           ∙ ap (λ n. natAbs (c .args .y) * rowBytes (c .args .width) + n / 8) column;
-      bit = ap (λ n. 7 - n % 8) column;
+      shift = ap (λ n. 7 - n % 8) column;
     }
