@@ -3,26 +3,26 @@ use mathlib.Core.Path.{_≡_, refl, sym, ap, subst, _∙_}
 use mathlib.Core.Bool.{Bool, true, false, _&&_, cond}
 use mathlib.Core.List.{List, [], _∷_, _++_}
 use mathlib.Core.Logic.{inl, inr, _≢_}
-use Prim.Native.Nat.{ℕ, suc, _+_, _-_, _*_, _/_, _%_, _^_, _≤_, _<_}
-use native.Mathlib.Nat.{add-mul-mod-self-right, mul-assoc}
+use Prim.Native.Nat.{ℕ, _+_, _-_, _*_, _/_, _%_, _^_, _≤_, _<_}
+use native.Mathlib.Nat.{add-mul-mod-self-right}
 use native.Mathlib.Omega.{arith}
 use Rattle.std.proofs.shelf.Signed.{ints}
-use denote.Ref.{now, name}
+use denote.Ref.{now}
 use lib.Dec.{leb, eqb}
 use lib.IntN.{ℤ, pos, negsuc, natAbs}
 use lib.Signed.{_≤ℤ_}
-use lib.ListN.{length, getD, set, length-set, length-append}
+use lib.ListN.{length, getD, length-set, length-append}
 use lib.Seq.{getD-set-same, getD-set-other}
 use Rattle.std.proofs.shelf.Bits.{pow-pos, pow-add, shr-shr, shr-split, shr-high, mod-below, field-of, mul-add-lt, div-mul-add}
 use Rattle.std.proofs.shelf.Tests.{eqb-true, eqb-false, leb-true, and-parts, and-from, cases-bool, cases-lt, cases-eq, cond-true, cond-false, true≢false}
 use Rattle.plate.specs.declared.Ink.{Ink}
 use Rattle.plate.specs.declared.Window.{Window}
 use Rattle.plate.specs.World.{Dot, inside, empty, canonical, inked}
-use Rattle.plate.specs.Plates.{Strike, Laws, After, Framed, AllIn, same, struck, litAfter, meaning}
+use Rattle.plate.specs.Plates.{Strike, Laws, After, Framed, AllIn, same, struck, litAfter}
 use Rattle.plate.specs.Windows.{le-true, orders-world, inside-orders, inside-empty, same-orders, orders-same, framed-empty}
 use Rattle.plate.specs.Bare.{litAfter-at, all-in-join, bare-laws}
 use Rattle.bitmap.specs.declared.Bitmap.{Bitmap}
-use Rattle.bitmap.specs.Bitmaps.{rowBytes, side, sized, bitmapWindow, byteOf, bitOf, bit, worth, inkedByte, bitmapLit, bitmapMeaning, burn, burnt, BitmapStrikes, SparesKept, SparesStay}
+use Rattle.bitmap.specs.Bitmaps.{rowBytes, side, sized, bitmapWindow, byteOf, bitOf, bit, worth, inkedByte, bitmapLit, bitmapMeaning, burn, burnt, BitmapStrikes, SparesStay}
 
 -- a bit as a number
 abbrev digit : Bool → ℕ
@@ -162,11 +162,13 @@ shown width height bytes p t = elim (cases-bool (sized width height bytes)) [
 column : (width height bytes : ℕ) (p : Dot) → Shown width height bytes p → natAbs (p .0) / 8 < rowBytes width
 column width height bytes p s = let a = s .across in omega arith
 
-pub byte-lt : (width height bytes : ℕ) (p : Dot) → Shown width height bytes p → byteOf width p < bytes
+-- the byte of a dot that a bitmap shows is one of its rows
+row-lt : (width height bytes : ℕ) (p : Dot) → Shown width height bytes p → byteOf width p < height * rowBytes width
 unfolding byteOf
-byte-lt width height bytes p s =
-    let r = s .fits .room in
-    omega (arith, mul-add-lt (natAbs (p .1)) (rowBytes width) (natAbs (p .0) / 8) height (s .down) (column width height bytes p s))
+row-lt width height bytes p s = omega (arith, mul-add-lt (natAbs (p .1)) (rowBytes width) (natAbs (p .0) / 8) height (s .down) (column width height bytes p s))
+
+pub byte-lt : (width height bytes : ℕ) (p : Dot) → Shown width height bytes p → byteOf width p < bytes
+byte-lt width height bytes p s = let r = s .fits .room in omega (arith, row-lt width height bytes p s)
 
 -- dots with one bit are one dot
 one-dot : (width height bytes : ℕ) (p q : Dot) → Shown width height bytes p → Shown width height bytes q → byteOf width p ≡ byteOf width q → bitOf p ≡ bitOf q → same p q ≡ true
@@ -285,11 +287,6 @@ pub bitmap-laws : Laws (λ s. bitmapMeaning s .window) (λ s. bitmapMeaning s .l
 bitmap-laws =
     bare-laws (λ s. bitmapMeaning s .window) (λ s. bitmapMeaning s .lit) (λ s. bitmapMeaning s .shots) BitmapStrikes bitmap-none bitmap-join bitmap-after
     (λ s. framed-bitmap (s .width) (s .height) (length (now (s .bytes))))
-
--- the byte of a dot that a bitmap shows is one of its rows
-row-lt : (width height bytes : ℕ) (p : Dot) → Shown width height bytes p → byteOf width p < height * rowBytes width
-unfolding byteOf
-row-lt width height bytes p s = omega (arith, mul-add-lt (natAbs (p .1)) (rowBytes width) (natAbs (p .0) / 8) height (s .down) (column width height bytes p s))
 
 past-kept : (width height : ℕ) (ks : List Strike) (bytes : List ℕ) → AllIn (inside (bitmapWindow width height (length bytes))) ks → (i : ℕ) → height * rowBytes width ≤ i → getD (burnt width ks bytes) i 0 ≡ getD bytes i 0
 past-kept width height [] bytes h i far = refl

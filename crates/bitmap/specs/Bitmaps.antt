@@ -18,6 +18,7 @@ use Rattle.bitmap.specs.declared.BitmapRefusal.{BitmapRefusal}
 use Rattle.bitmap.specs.declared.Place.{Place}
 use Rattle.bitmap.specs.declared.BitmapRefusal.the-variants.{Size}
 
+-- the number by which workshops know a refused size
 abbrev pub bitmapNumber : BitmapRefusal → ℕ
 bitmapNumber Size = 3
 
@@ -61,6 +62,7 @@ inkedByte ink byte k = byte - worth k (bit byte k) + worth k (inked ink (bit byt
 abbrev pub bitmapLit : ℕ → List ℕ → Dot → Bool
 bitmapLit width bytes p = bit (getD bytes (byteOf width p) 0) (bitOf p)
 
+-- what a bitmap means, whatever its fields hold
 abbrev pub bitmapMeaning : Bitmap → Meaning
 bitmapMeaning s = record {
   window = bitmapWindow (s .width) (s .height) (length (now (s .bytes)));
@@ -77,10 +79,11 @@ abbrev pub Placed : Option Place → Bitmap → Dot → Type 0
 Placed (Some at) s p = (inside (bitmapMeaning s .window) p ≡ true) × (at .index ≡ byteOf (s .width) p) × (at .index < length (now (s .bytes))) × (at .shift ≡ bitOf p) × (at .shift < 8)
 Placed None s p = inside (bitmapMeaning s .window) p ≡ false
 
--- the bytes after one strike, which inks one bit, and after strikes in order
+-- the bytes after one strike, which inks one bit
 abbrev pub burn : ℕ → Strike → List ℕ → List ℕ
 burn width k bytes = set bytes (byteOf width (k .0)) (inkedByte (k .1) (getD bytes (byteOf width (k .0)) 0) (bitOf (k .0)))
 
+-- the bytes after strikes in order
 abbrev pub burnt : ℕ → List Strike → List ℕ → List ℕ
 burnt width [] bytes = bytes
 burnt width (k ∷ ks) bytes = burnt width ks (burn width k bytes)
