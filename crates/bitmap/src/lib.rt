@@ -209,38 +209,3 @@ pub impl Plate for Bitmap<'_> as BitmapPlate {
         Ok(())
     }
 }
-
-#[cfg(test)]
-mod tests {
-    use super::*;
-    use std::test::*;
-
-    // Ten dots to a row leave six spare bits, and the fifth byte lies past two rows.
-    #[test]
-    fn inks_the_edges_of_bytes() -> Result<(), Fail> {
-        let mut bytes = [0x00, 0x3f, 0x01, 0xbf, 0x5a];
-        let mut bitmap = Bitmap::new(10, 2, 4, &mut bytes);
-        for (x, y, ink) in [
-            (7, 0, Ink::Light),
-            (8, 0, Ink::Flip),
-            (7, 1, Ink::Clear),
-            (0, 1, Ink::Flip),
-        ] {
-            check(bitmap.strike(x, y, ink).is_ok())?;
-        }
-        check_eq(bitmap.ask(8, 0), Some(true))?;
-        check_eq(bitmap.ask(10, 0), None)?;
-        check_eq(bytes, [0x01, 0xbf, 0x80, 0xbf, 0x5a])
-    }
-
-    #[test]
-    fn refuses_sizes() -> Result<(), Fail> {
-        let mut bytes = [0; 3];
-        for (width, height) in [(0, 3), (8193, 1), (9, 2)] {
-            check(Bitmap::check(width, height, &bytes).is_err())?;
-        }
-        let mut bitmap = Bitmap::new(9, 2, 5, &mut bytes);
-        check_eq(bitmap.shots(), 0)?;
-        check_eq(bitmap.window().right, 0)
-    }
-}

@@ -9,9 +9,12 @@ mod tests {
     use plate::Ink;
     use plate::Plate;
     use plate::Refusal;
+    use plate::StrikeRefusal;
     use plate::StrikeRefusalNumber;
     use plate::Window;
     use report::PrintRefusalNumber;
+    use report::write_header;
+    use report::write_refusal;
     use report::write_row;
     use std::test::*;
     use strip::Record;
@@ -97,5 +100,55 @@ mod tests {
             return Err(Fail::new("printed a row outside"));
         };
         check_eq(outside.number(), 20)
+    }
+
+    // Ten dots to a row leave six spare bits, and the fifth byte lies past two rows.
+    #[test]
+    fn inks_at_the_edges_of_bytes() -> Result<(), Fail> {
+        let mut bytes = [0x00, 0x3f, 0x01, 0xbf, 0x5a];
+        let mut bitmap = Bitmap::new(10, 2, 4, &mut bytes);
+        for (x, y, ink) in [
+            (7, 0, Ink::Light),
+            (8, 0, Ink::Flip),
+            (7, 1, Ink::Clear),
+            (0, 1, Ink::Flip),
+        ] {
+            check(bitmap.strike(x, y, ink).is_ok())?;
+        }
+        check_eq(bitmap.ask(8, 0), Some(true))?;
+        check_eq(bitmap.ask(10, 0), None)?;
+        check_eq(bytes, [0x01, 0xbf, 0x80, 0xbf, 0x5a])
+    }
+
+    #[test]
+    fn refused_sizes() -> Result<(), Fail> {
+        let mut bytes = [0; 3];
+        for (width, height) in [(0, 3), (8193, 1), (9, 2)] {
+            check(Bitmap::check(width, height, &bytes).is_err())?;
+        }
+        let mut bitmap = Bitmap::new(9, 2, 5, &mut bytes);
+        check_eq(bitmap.shots(), 0)?;
+        check_eq(bitmap.window().right, 0)
+    }
+
+    #[test]
+    fn header_needs_all_its_bytes() -> Result<(), Fail> {
+        let mut out = [b'-'; 12];
+        check(matches!(write_header(&mut out, 120, 80, 4000), Ok(12)))?;
+        check_eq(&out, b"120 80 4000\n")?;
+        let mut short = [b'-'; 11];
+        let Err(cause) = write_header(&mut short, 120, 80, 4000) else {
+            return Err(Fail::new("written"));
+        };
+        check_eq(cause.number(), 11)?;
+        check_eq(&short, b"-----------")
+    }
+
+    #[test]
+    fn refusal_keeps_the_bytes_after_it() -> Result<(), Fail> {
+        let mut out = [b'-'; 30];
+        let cause = StrikeRefusal::Outside;
+        check(matches!(write_refusal(&mut out, &cause, 7, 10), Ok(28)))?;
+        check_eq(&out, b"refused 20 line 7 column 10\n--")
     }
 }
