@@ -11,6 +11,7 @@ ghost use lib.ListN.{length};
 ghost use Rattle.plate.specs.Answers.{told, done, refused};
 ghost use Rattle.bitmap.specs.Bitmaps.{bitmapNumber, rowBytes, side, sized, byteOf, bitOf, bit, inkedByte, bitmapMeaning, newBitmap, Placed, BitmapStrikes, SparesStay};
 ghost use Rattle.bitmap.specs.BitmapLaws.{bitmap-laws};
+use plate::Facing;
 use plate::Ink;
 use plate::Plate;
 use plate::Refusal;
@@ -207,5 +208,13 @@ pub impl Plate for Bitmap<'_> as BitmapPlate {
         self.bytes[at.index] = ink_bit(self.bytes[at.index], at.shift, ink);
         self.shots -= 1;
         Ok(())
+    }
+
+    fn carry(&mut self, at: (i32, i32)) -> Option<(i32, i32)> {
+        Some(at)
+    }
+
+    fn facing(&mut self) -> Facing {
+        Facing::Same
     }
 }

@@ -3,3 +3,4 @@ pub mod Answers
 pub mod Plates
 pub mod Windows
 pub mod Bare
+pub mod Piles

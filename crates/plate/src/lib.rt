@@ -10,6 +10,7 @@ ghost use denote.Ref.{now};
 ghost use Rattle.plate.specs.declared.Window.{Window};
 ghost use Rattle.plate.specs.World.{Dot, within, world, inside, empty as noDots, canonical as canonicalOf, bounded, windowOf, inked};
 ghost use Rattle.plate.specs.Answers.{told, done, refused, strikeNumber, windowNumber};
+ghost use Rattle.plate.specs.Piles.{facingNumber, exchanges as exchangesAxes, negatesFirst, negatesSecond, facingBy, joinedTurn, facingOf, carried};
 ghost use Rattle.plate.specs.Plates.{Strike, Meaning, Layer, Laws, asked, strikeAnswer, accepted};
 
 // An ink makes a dot lit, makes it unlit, or changes it to the other.
@@ -44,6 +45,90 @@ pub enum Facing {
     AcrossY,
     Swap,
     Anti,
+}
+
+impl Facing {
+    // From 0 to 7.
+    pub fn number(self) -> u8
+        ensures { λ r. ⌜ r ≡ facingNumber self ⌝ }
+    {
+        match self {
+            Facing::Same => 0,
+            Facing::Quarter => 1,
+            Facing::Half => 2,
+            Facing::Back => 3,
+            Facing::AcrossX => 4,
+            Facing::AcrossY => 5,
+            Facing::Swap => 6,
+            Facing::Anti => 7,
+        }
+    }
+
+    // Whether this turn exchanges the axes.
+    pub fn exchanges(self) -> bool
+        ensures { λ r. ⌜ r ≡ exchangesAxes self ⌝ }
+    {
+        match self {
+            Facing::Quarter | Facing::Back | Facing::Swap | Facing::Anti => true,
+            Facing::Same | Facing::Half | Facing::AcrossX | Facing::AcrossY => false,
+        }
+    }
+
+    fn negates_first(self) -> bool
+        ensures { λ r. ⌜ r ≡ negatesFirst self ⌝ }
+    {
+        match self {
+            Facing::Quarter | Facing::Half | Facing::AcrossX | Facing::Anti => true,
+            Facing::Same | Facing::Back | Facing::AcrossY | Facing::Swap => false,
+        }
+    }
+
+    fn negates_second(self) -> bool
+        ensures { λ r. ⌜ r ≡ negatesSecond self ⌝ }
+    {
+        match self {
+            Facing::Half | Facing::Back | Facing::AcrossY | Facing::Anti => true,
+            Facing::Same | Facing::Quarter | Facing::AcrossX | Facing::Swap => false,
+        }
+    }
+
+    // Which numbers this turn negates, by their places after a further exchange or none.
+    fn negations(self, exchange: bool) -> (bool, bool)
+        ensures { λ r. ⌜ r ≡ (cond exchange (negatesSecond self) (negatesFirst self), cond exchange (negatesFirst self) (negatesSecond self)) ⌝ }
+    {
+        if exchange {
+            (self.negates_second(), self.negates_first())
+        } else {
+            (self.negates_first(), self.negates_second())
+        }
+    }
+
+    fn by_parts(exchange: bool, first: bool, second: bool) -> Facing
+        ensures { λ r. ⌜ r ≡ facingBy exchange first second ⌝ }
+    {
+        match (exchange, first, second) {
+            (false, false, false) => Facing::Same,
+            (false, false, true) => Facing::AcrossY,
+            (false, true, false) => Facing::AcrossX,
+            (false, true, true) => Facing::Half,
+            (true, false, false) => Facing::Swap,
+            (true, false, true) => Facing::Back,
+            (true, true, false) => Facing::Quarter,
+            (true, true, true) => Facing::Anti,
+        }
+    }
+
+    // The one turn that is this one and then another.
+    pub fn then(self, next: Facing) -> Facing
+        ensures { λ r. ⌜ r ≡ joinedTurn self next ⌝ }
+    {
+        let (first, second) = self.negations(next.exchanges());
+        Facing::by_parts(
+            self.exchanges() != next.exchanges(),
+            next.negates_first() != first,
+            next.negates_second() != second,
+        )
+    }
 }
 
 // A cause of refusal, known to workshops by its number.
@@ -213,4 +298,14 @@ pub trait Plate {
     fn strike(&mut self, x: i32, y: i32, ink: Ink) -> Result<(), StrikeRefusal>
         ensures answer { λ r. ⌜ told strikeNumber r ≡ strikeAnswer (window (now (self .entry))) (shots (now (self .entry))) (x, y) ⌝ }
         ensures history { λ _. ⌜ strikes (now (self .entry)) (accepted (window (now (self .entry))) (shots (now (self .entry))) ((x, y), ink)) (now (self .exit)) ⌝ };
+
+    // The place of a dot on the lowest plate, unless a number on the way can be handed to no call.
+    fn carry(&mut self, at: (i32, i32)) -> Option<(i32, i32)>
+        ensures value { λ r. ⌜ r ≡ carried (layers (now (self .entry))) at ⌝ }
+        ensures same { λ _. ⌜ strikes (now (self .entry)) [] (now (self .exit)) ⌝ };
+
+    // All the turns over the lowest plate together.
+    fn facing(&mut self) -> Facing
+        ensures value { λ r. ⌜ r ≡ facingOf (layers (now (self .entry))) ⌝ }
+        ensures same { λ _. ⌜ strikes (now (self .entry)) [] (now (self .exit)) ⌝ };
 }

@@ -10,6 +10,7 @@ ghost use Rattle.plate.specs.World.{inside, windowOf};
 ghost use Rattle.plate.specs.Plates.{struck, meaning};
 ghost use Rattle.strip.specs.Strips.{places, kept, litBy, stripMeaning, StripStrikes};
 ghost use Rattle.strip.specs.StripLaws.{strip-laws};
+use plate::Facing;
 use plate::Ink;
 use plate::Plate;
 use plate::StrikeRefusal;
@@ -126,5 +127,13 @@ pub impl Plate for Strip<'_> as StripPlate {
         self.records[self.used] = Record { x, y, ink };
         self.used += 1;
         Ok(())
+    }
+
+    fn carry(&mut self, at: (i32, i32)) -> Option<(i32, i32)> {
+        Some(at)
+    }
+
+    fn facing(&mut self) -> Facing {
+        Facing::Same
     }
 }
