@@ -1,0 +1,113 @@
+// Masks, shifts and turns over any plate.
+ghost use mathlib.Core.Path.{_≡_};
+ghost use mathlib.Core.Bool.{true, _&&_};
+ghost use mathlib.Core.List.{_∷_};
+ghost use denote.Ref.{now};
+ghost use Rattle.plate.specs.declared.Window.{Window};
+ghost use Rattle.plate.specs.World.{Dot, world};
+ghost use Rattle.plate.specs.Plates.{Layer, Framed, step, admits, near};
+ghost use Rattle.plate.specs.Piles.{handableDot, turnOf};
+ghost use Rattle.layer.specs.Views.{view};
+ghost use Rattle.layer.specs.LayerLaws.{layer-laws, Lowered};
+use plate::in_world;
+use plate::Facing;
+use plate::Ink;
+use plate::Plate;
+use plate::StrikeRefusal;
+use plate::Window;
+
+// What one layer does with dots and windows, whatever plate lies below it.
+pub trait Overlay {
+    ghost layer: { Self → Layer };
+
+    ghost small: { (s : Self) → near (layer s) ≡ true };
+
+    // The place below of a dot above; a dot whose place no call can be handed is nowhere, and is answered as anything.
+    fn map(&self, at: (i32, i32)) -> (i32, i32)
+        ensures { λ r. ⌜ (handableDot (step (layer (now (self .entry))) at) ≡ true → r ≡ step (layer (now (self .entry))) at) ⌝ };
+
+    // Whether the place below can be handed to a call.
+    fn reaches(&self, at: (i32, i32)) -> bool
+        ensures { λ r. ⌜ r ≡ handableDot (step (layer (now (self .entry))) at) ⌝ };
+
+    // Whether the layer hides no such dot.
+    fn admits(&self, at: (i32, i32)) -> bool
+        ensures { λ r. ⌜ r ≡ admits (layer (now (self .entry))) at ⌝ };
+
+    // The window above, by the window below.
+    fn view(&self, below: Window) -> Window
+        ensures { λ r. ⌜ (Framed below → r ≡ view (layer (now (self .entry))) below) ⌝ };
+
+    fn turn(&self) -> Facing
+        ensures { λ r. ⌜ r ≡ turnOf (layer (now (self .entry))) ⌝ };
+}
+
+// A layer over a plate.
+#[derive(Drop)]
+pub struct Over<L, P> {
+    layer: L,
+    below: P,
+}
+
+impl<L: Overlay, P> Over<L, P> {
+    // Whether a dot above has a place that the plate below may be asked about: it is one of the world, and not hidden.
+    fn opens(&self, at: (i32, i32)) -> bool
+        ensures { λ r. ⌜ r ≡ (world at && admits (L·Overlay .layer (now (self .entry) .layer)) at) ⌝ }
+    {
+        in_world(at.0, at.1) && self.layer.admits(at)
+    }
+}
+
+pub impl<L: Overlay, P: Plate> Plate for Over<L, P> as OverPlate {
+    ghost window = { λ s. view (L·Overlay .layer (s .layer)) (P·Plate .window (s .below)) };
+
+    ghost lit = { λ s p. P·Plate .lit (s .below) (step (L·Overlay .layer (s .layer)) p) };
+
+    ghost shots = { λ s. P·Plate .shots (s .below) };
+
+    ghost strikes = { Lowered (λ s. L·Overlay .layer (s .layer)) (λ s. s .below) (P·Plate .strikes) };
+
+    ghost layers = { λ s. L·Overlay .layer (s .layer) ∷ P·Plate .layers (s .below) };
+
+    ghost floor = { λ s. P·Plate .floor (s .below) };
+
+    ghost laws = { layer-laws (λ s. L·Overlay .layer (s .layer)) (λ s. s .below) (λ s. L·Overlay .small (s .layer)) (P·Plate .laws) };
+
+    fn window(&mut self) -> Window {
+        let below = self.below.window();
+        self.layer.view(below)
+    }
+
+    fn shots(&mut self) -> u32 {
+        self.below.shots()
+    }
+
+    fn ask(&mut self, x: i32, y: i32) -> Option<bool> {
+        if !self.opens((x, y)) {
+            return None;
+        }
+        let (px, py) = self.layer.map((x, y));
+        self.below.ask(px, py)
+    }
+
+    fn strike(&mut self, x: i32, y: i32, ink: Ink) -> Result<(), StrikeRefusal> {
+        if !self.opens((x, y)) {
+            return Err(StrikeRefusal::Outside);
+        }
+        let (px, py) = self.layer.map((x, y));
+        self.below.strike(px, py, ink)
+    }
+
+    fn carry(&mut self, at: (i32, i32)) -> Option<(i32, i32)> {
+        if !self.layer.reaches(at) {
+            return None;
+        }
+        let next = self.layer.map(at);
+        self.below.carry(next)
+    }
+
+    fn facing(&mut self) -> Facing {
+        let below = self.below.facing();
+        self.layer.turn().then(below)
+    }
+}
