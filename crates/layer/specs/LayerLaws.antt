@@ -2,6 +2,7 @@
 use mathlib.Core.Path.{_≡_, refl, sym, ap, subst, _∙_}
 use mathlib.Core.Bool.{Bool, true, false, _&&_, cond}
 use mathlib.Core.List.{List, [], _∷_, _++_, map}
+use mathlib.Core.Logic.{inl, inr}
 use Prim.Native.Nat.{ℕ, suc, _+_}
 use lib.IntN.{ℤ, pos, negsuc, _+ℤ_, _-ℤ_, negℤ}
 use lib.Signed.{leZ, _≤ℤ_}
@@ -9,13 +10,14 @@ use lib.ListN.{length}
 use native.Mathlib.Omega.{arith}
 use Rattle.std.proofs.shelf.Lists.{map-append, length-map}
 use Rattle.std.proofs.shelf.Signed.{ints, clamps}
-use Rattle.std.proofs.shelf.Tests.{and-parts, and-from}
+use Rattle.std.proofs.shelf.Tests.{and-parts, and-from, cases-bool, cond-true, cond-false}
 use Rattle.plate.specs.declared.Facing.{Facing}
 use Rattle.plate.specs.declared.Facing.the-variants.{Same, Quarter, Half, Back, AcrossX, AcrossY, Swap, Anti}
 use Rattle.plate.specs.declared.Window.{Window}
 use Rattle.plate.specs.World.{Dot, within, world, inside, inked, canonical}
 use Rattle.plate.specs.Plates.{Strike, Meaning, After, Framed, Seen, Layer, mask, shift, turn, Laws, same, struck, litAfter, turned, step, admits, place, shows, sunk, near, meaning}
 use Rattle.plate.specs.Windows.{both, In, inside-orders, orders-inside, same-orders, orders-same, inside-canonical, canonical-twice}
+use Rattle.layer.specs.Layers.{shiftBy}
 use Rattle.layer.specs.Views.{whole, overlap, clipped, unturned, pulled, view}
 
 same-inside : (v w : Window) (p q : Dot) → (In v p → In w q) → (In w q → In v p) → inside v p ≡ inside w q
@@ -40,6 +42,7 @@ unfolding clipped
 framed-clipped w = record { told = canonical-twice (overlap whole w); worldly = λ p t. and-parts (world p) (inside w p) (sym (inside-clipped w p) ∙ t) .0 }
 
 turn-orders : (k : Facing) (w : Window) (p : Dot) → (In (unturned k w) p → In w (turned k p)) × (In w (turned k p) → In (unturned k w) p)
+unfolding unturned
 turn-orders Same w p = omega (arith, ints)
 turn-orders Quarter w p = omega (arith, ints)
 turn-orders Half w p = omega (arith, ints)
@@ -127,3 +130,11 @@ layer-laws {window = window} {lit = lit} {shots = shots} {strikes = strikes} {la
   stays = λ s t xs p. ap (λ l. l ∷ layers (below t)) (p .0) ∙ ap (λ ls. layer s ∷ ls) (h .stays (below s) (below t) (map (down (layer s)) xs) (p .1));
   sinks = λ s t xs p. subst (λ zs. After zs (floor (below s)) (floor (below t))) (map-map (sunk (layers (below s))) (down (layer s)) xs) (h .sinks (below s) (below t) (map (down (layer s)) xs) (p .1));
 }
+
+-- a shift goes by numbers of the world, whatever it was made from
+pub shift-near : (dx dy : ℤ) → near (shiftBy dx dy) ≡ true
+unfolding world within
+shift-near dx dy = elim (cases-bool (world (dx, dy))) [
+  | inl t ↦ ap near (cond-true (world (dx, dy)) (shift dx dy) (shift (pos 0) (pos 0)) t) ∙ t
+  | inr f ↦ ap near (cond-false (world (dx, dy)) (shift dx dy) (shift (pos 0) (pos 0)) f)
+]

@@ -1,12 +1,12 @@
 -- The window above a layer, computed from the window below; that it has just the right dots is `inside-view` in LayerLaws.antt.
-use mathlib.Core.Path.{_≡_}
+use mathlib.Core.Bool.{Bool, cond}
 use lib.IntN.{ℤ, pos, negsuc, _-ℤ_, negℤ}
 use Rattle.std.specs.Numbers.{maxZ, minZ}
 use Rattle.plate.specs.declared.Facing.{Facing}
-use Rattle.plate.specs.declared.Facing.the-variants.{Same, Quarter, Half, Back, AcrossX, AcrossY, Swap, Anti}
 use Rattle.plate.specs.declared.Window.{Window}
 use Rattle.plate.specs.World.{canonical}
 use Rattle.plate.specs.Plates.{Layer, mask, shift, turn}
+use Rattle.plate.specs.Piles.{exchanges, negatesFirst, negatesSecond}
 
 -- all dots of the world
 abbrev pub whole : Window
@@ -20,16 +20,19 @@ overlap v w = record { left = maxZ (v .left) (w .left); top = maxZ (v .top) (w .
 unfoldable pub clipped : Window → Window
 clipped w = canonical (overlap whole w)
 
+-- the numbers that lie from low to high once they are negated, or as they are
+abbrev pub flipped : Bool → ℤ → ℤ → ℤ × ℤ
+flipped negates low high = cond negates (negℤ high, negℤ low) (low, high)
+
+abbrev pub windowBy : ℤ × ℤ → ℤ × ℤ → Window
+windowBy across along = record { left = across .0; top = along .0; right = across .1; bottom = along .1 }
+
 -- the dots that a turn sends into a window
-abbrev pub unturned : Facing → Window → Window
-unturned Same w = record { left = w .left; top = w .top; right = w .right; bottom = w .bottom }
-unturned Quarter w = record { left = w .top; top = negℤ (w .right); right = w .bottom; bottom = negℤ (w .left) }
-unturned Half w = record { left = negℤ (w .right); top = negℤ (w .bottom); right = negℤ (w .left); bottom = negℤ (w .top) }
-unturned Back w = record { left = negℤ (w .bottom); top = w .left; right = negℤ (w .top); bottom = w .right }
-unturned AcrossX w = record { left = negℤ (w .right); top = w .top; right = negℤ (w .left); bottom = w .bottom }
-unturned AcrossY w = record { left = w .left; top = negℤ (w .bottom); right = w .right; bottom = negℤ (w .top) }
-unturned Swap w = record { left = w .top; top = w .left; right = w .bottom; bottom = w .right }
-unturned Anti w = record { left = negℤ (w .bottom); top = negℤ (w .right); right = negℤ (w .top); bottom = negℤ (w .left) }
+unfoldable pub unturned : Facing → Window → Window
+unturned k w =
+    let first = flipped (negatesFirst k) (w .left) (w .right) in
+    let second = flipped (negatesSecond k) (w .top) (w .bottom) in
+    cond (exchanges k) (windowBy second first) (windowBy first second)
 
 -- the dots that a layer admits and whose places lie in a window
 abbrev pub pulled : Layer → Window → Window

@@ -8,13 +8,53 @@ ghost use Rattle.plate.specs.World.{Dot, world};
 ghost use Rattle.plate.specs.Plates.{Layer, Framed, step, admits, near};
 ghost use Rattle.plate.specs.Piles.{handableDot, turnOf};
 ghost use Rattle.layer.specs.Views.{view};
+ghost use Rattle.layer.specs.Layers.{layerNumber};
 ghost use Rattle.layer.specs.LayerLaws.{layer-laws, Lowered};
-use plate::in_world;
+
+mod masks;
+mod numbers;
+mod shifts;
+mod turns;
+
+pub use masks::Mask;
+pub use masks::Masking;
+pub use masks::MaskingOverlay;
+pub use masks::mask_over;
 use plate::Facing;
 use plate::Ink;
 use plate::Plate;
+use plate::Refusal;
 use plate::StrikeRefusal;
 use plate::Window;
+use plate::in_world;
+pub use shifts::Shift;
+pub use shifts::Shifting;
+pub use shifts::ShiftingOverlay;
+pub use shifts::check_shift;
+pub use shifts::shift_over;
+pub use turns::Turn;
+pub use turns::Turning;
+pub use turns::TurningOverlay;
+pub use turns::check_turn;
+pub use turns::turn_over;
+
+// Why a shift or a turn was refused.
+#[derive(Clone, Copy)]
+pub enum LayerRefusal {
+    BadShift,
+    BadTurn,
+}
+
+pub impl Refusal for LayerRefusal as LayerRefusalNumber {
+    ghost number = { layerNumber };
+
+    fn number(&self) -> u8 {
+        match self {
+            LayerRefusal::BadShift => 1,
+            LayerRefusal::BadTurn => 1,
+        }
+    }
+}
 
 // What one layer does with dots and windows, whatever plate lies below it.
 pub trait Overlay {

@@ -74,7 +74,8 @@ impl Facing {
         }
     }
 
-    fn negates_first(self) -> bool
+    // Whether it negates the first of the numbers that it then answers.
+    pub fn negates_first(self) -> bool
         ensures { λ r. ⌜ r ≡ negatesFirst self ⌝ }
     {
         match self {
@@ -83,7 +84,8 @@ impl Facing {
         }
     }
 
-    fn negates_second(self) -> bool
+    // And the second.
+    pub fn negates_second(self) -> bool
         ensures { λ r. ⌜ r ≡ negatesSecond self ⌝ }
     {
         match self {
