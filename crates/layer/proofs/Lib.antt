@@ -1,0 +1,2 @@
+mod Maps
+mod Carrying
