@@ -1,4 +1,7 @@
-// Masks, shifts and turns over any plate.
+// Masks, shifts and turns over any plate, in any pile.
+// A layer over a plate is a plate: it keeps all the laws, its window, lit dots and shots are those below seen through it, and its history is the history of the places below.
+// `Over` has what all layers share; `Overlay` is what one layer does. How a pile maps dots is told by the crate `pile`.
+// Read on in specs/Layers.antt and specs/Views.antt, in `plate`'s specs/Piles.antt, and in docs/LAYERS.md.
 ghost use mathlib.Core.Path.{_≡_};
 ghost use mathlib.Core.Bool.{true, _&&_};
 ghost use mathlib.Core.List.{_∷_};
