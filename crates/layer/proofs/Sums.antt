@@ -79,6 +79,9 @@ framed-bounded w f = elim (cases-bool (leZ (w .left) (w .right) && leZ (w .top) 
   | inr e ↦ subst Bounded (sym (sym (f .told) ∙ cond-false (leZ (w .left) (w .right) && leZ (w .top) (w .bottom)) w empty e)) bounded-empty
 ]
 
+pub within-negates : (z : ℤ) → within z ≡ true → handable (negℤ z) ≡ true
+within-negates z t = let w = within-orders z t in fits-handable (negℤ z) (omega (arith, ints))
+
 -- a shift by the numbers a and b
 module _ (a b : ℤ) (l : Layer) (is : shift a b ≡ l) where
   pub shift-place : (p : Dot) (x y : ℤ) → (handable (p .0 +ℤ a) ≡ true → x ≡ p .0 +ℤ a) → (handable (p .1 +ℤ b) ≡ true → y ≡ p .1 +ℤ b) → handableDot (step l p) ≡ true → _≡_ {A = Dot} (x, y) (step l p)
@@ -88,12 +91,22 @@ module _ (a b : ℤ) (l : Layer) (is : shift a b ≡ l) where
   unfolding handableDot
   shift-reaches p r e = subst (λ k. r ≡ handableDot (step k p)) is e
 
-  pub shift-view : (w : Window) → world (a, b) ≡ true → (left top right bottom : ℤ) → (within (w .left) ≡ true → within a ≡ true → left ≡ w .left -ℤ a) → (within (w .top) ≡ true → within b ≡ true → top ≡ w .top -ℤ b) → (within (w .right) ≡ true → within a ≡ true → right ≡ w .right -ℤ a) → (within (w .bottom) ≡ true → within b ≡ true → bottom ≡ w .bottom -ℤ b) → Framed w → clipped (record { left = left; top = top; right = right; bottom = bottom }) ≡ view l w
-  shift-view w small left top right bottom el et er eb f =
+  -- the window above, by the opposite numbers
+  pub shift-view : (w : Window) → world (a, b) ≡ true → (back up left top right bottom : ℤ) → (handable (negℤ a) ≡ true → back ≡ negℤ a) → (handable (negℤ b) ≡ true → up ≡ negℤ b) → (handable (w .left +ℤ back) ≡ true → left ≡ w .left +ℤ back) → (handable (w .top +ℤ up) ≡ true → top ≡ w .top +ℤ up) → (handable (w .right +ℤ back) ≡ true → right ≡ w .right +ℤ back) → (handable (w .bottom +ℤ up) ≡ true → bottom ≡ w .bottom +ℤ up) → Framed w → clipped (record { left = left; top = top; right = right; bottom = bottom }) ≡ view l w
+  shift-view w small back up left top right bottom eback eup el et er eb f =
       let k = framed-bounded w f in
       let s = world-parts (a, b) small in
+      let m = eback (within-negates a (s .0)) in
+      let n = eup (within-negates b (s .1)) in
       subst (λ m. clipped (record { left = left; top = top; right = right; bottom = bottom }) ≡ view m w) is
-      (ap clipped (window-is left top right bottom (w .left -ℤ a) (w .top -ℤ b) (w .right -ℤ a) (w .bottom -ℤ b) (el (k .left) (s .0)) (et (k .top) (s .1)) (er (k .right) (s .0)) (eb (k .bottom) (s .1))))
+      (ap clipped (window-is left top right bottom (w .left -ℤ a) (w .top -ℤ b) (w .right -ℤ a) (w .bottom -ℤ b) (apart (w .left) a back left (k .left) (s .0) m el) (apart (w .top) b up top (k .top) (s .1) n et) (apart (w .right) a back right (k .right) (s .0) m er) (apart (w .bottom) b up bottom (k .bottom) (s .1) n eb)))
+    where
+      apart : (z d back r : ℤ) → within z ≡ true → within d ≡ true → back ≡ negℤ d → (handable (z +ℤ back) ≡ true → r ≡ z +ℤ back) → r ≡ z -ℤ d
+      apart z d back r p q e h =
+          let v = within-orders z p in
+          let w = within-orders d q in
+          let r-is = h (fits-handable (z +ℤ back) (omega (arith, ints))) in
+          omega (arith, ints)
 
 -- where a turn sends a dot, number by number
 pub turned-is : (k facing : Facing) (p : Dot) (x y : ℤ) → facing ≡ k → (handable (turned k p .0) ≡ true → x ≡ turned k p .0) → (handable (turned k p .1) ≡ true → y ≡ turned k p .1) → handableDot (turned facing p) ≡ true → _≡_ {A = Dot} (x, y) (turned facing p)
@@ -106,9 +119,6 @@ can-turn-is k facing p a b r e ea eb er = er ∙ ap (λ c. c && b) ea ∙ ap (λ
 pub and-true : (b : Bool) → (b && true) ≡ b
 and-true true = refl
 and-true false = refl
-
-pub within-negates : (z : ℤ) → within z ≡ true → handable (negℤ z) ≡ true
-within-negates z t = let w = within-orders z t in fits-handable (negℤ z) (omega (arith, ints))
 
 -- the dots that a turn sends into a window, side by side
 pub unturned-swap : (k : Facing) (w : Window) (first second : ℤ × ℤ) → exchanges k ≡ true → first ≡ flipped (negatesFirst k) (w .left) (w .right) → second ≡ flipped (negatesSecond k) (w .top) (w .bottom) → windowBy second first ≡ unturned k w

@@ -4,11 +4,12 @@
 // Read on in specs/Layers.antt and specs/Views.antt, in `plate`'s specs/Piles.antt, and in docs/LAYERS.md.
 ghost use mathlib.Core.Path.{_≡_};
 ghost use mathlib.Core.Bool.{true, _&&_};
-ghost use mathlib.Core.List.{_∷_};
+ghost use mathlib.Core.List.{[], _∷_};
 ghost use denote.Ref.{now};
 ghost use Rattle.plate.specs.declared.Window.{Window};
 ghost use Rattle.plate.specs.World.{Dot, world};
-ghost use Rattle.plate.specs.Plates.{Layer, Framed, step, admits, near};
+ghost use Rattle.plate.specs.Plates.{Layer, Framed, step, admits, near, asked, strikeAnswer, accepted};
+ghost use Rattle.plate.specs.Answers.{told, strikeNumber};
 ghost use Rattle.plate.specs.Piles.{handableDot, turnOf};
 ghost use Rattle.layer.specs.Views.{view};
 ghost use Rattle.layer.specs.Layers.{layerNumber};
@@ -92,6 +93,20 @@ pub struct Over<L, P> {
     below: P,
 }
 
+fn ask_at<P: Plate>(plate: &mut P, at: (i32, i32)) -> Option<bool>
+    ensures value { λ r. ⌜ r ≡ asked (P·Plate .window (now (plate .entry))) (P·Plate .lit (now (plate .entry))) at ⌝ }
+    ensures same { λ _. ⌜ P·Plate .strikes (now (plate .entry)) [] (now (plate .exit)) ⌝ }
+{
+    plate.ask(at.0, at.1)
+}
+
+fn strike_at<P: Plate>(plate: &mut P, at: (i32, i32), ink: Ink) -> Result<(), StrikeRefusal>
+    ensures answer { λ r. ⌜ told strikeNumber r ≡ strikeAnswer (P·Plate .window (now (plate .entry))) (P·Plate .shots (now (plate .entry))) at ⌝ }
+    ensures history { λ _. ⌜ P·Plate .strikes (now (plate .entry)) (accepted (P·Plate .window (now (plate .entry))) (P·Plate .shots (now (plate .entry))) (at, ink)) (now (plate .exit)) ⌝ }
+{
+    plate.strike(at.0, at.1, ink)
+}
+
 impl<L: Overlay, P> Over<L, P> {
     // Whether a dot above has a place that the plate below may be asked about: it is one of the world, and not hidden.
     fn opens(&self, at: (i32, i32)) -> bool
@@ -129,16 +144,16 @@ pub impl<L: Overlay, P: Plate> Plate for Over<L, P> as OverPlate {
         if !self.opens((x, y)) {
             return None;
         }
-        let (px, py) = self.layer.map((x, y));
-        self.below.ask(px, py)
+        let place = self.layer.map((x, y));
+        ask_at(&mut self.below, place)
     }
 
     fn strike(&mut self, x: i32, y: i32, ink: Ink) -> Result<(), StrikeRefusal> {
         if !self.opens((x, y)) {
             return Err(StrikeRefusal::Outside);
         }
-        let (px, py) = self.layer.map((x, y));
-        self.below.strike(px, py, ink)
+        let place = self.layer.map((x, y));
+        strike_at(&mut self.below, place, ink)
     }
 
     fn carry(&mut self, at: (i32, i32)) -> Option<(i32, i32)> {

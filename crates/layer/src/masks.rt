@@ -28,6 +28,15 @@ pub fn mask_over<P>(bounds: Window, below: P) -> Mask<P>
     }
 }
 
+impl Masking {
+    // The window that the mask shows.
+    fn shown(self) -> Window
+        ensures { λ r. ⌜ r ≡ windowOf (self .bounds) ⌝ }
+    {
+        self.bounds.made()
+    }
+}
+
 pub impl Overlay for Masking as MaskingOverlay {
     ghost layer = { maskLayer };
 
@@ -42,13 +51,11 @@ pub impl Overlay for Masking as MaskingOverlay {
     }
 
     fn admits(&self, at: (i32, i32)) -> bool {
-        let window = self.bounds.made();
-        window.contains(at.0, at.1)
+        self.shown().contains(at.0, at.1)
     }
 
     fn view(&self, below: Window) -> Window {
-        let window = self.bounds.made();
-        clipped(overlapping(window, below))
+        clipped(overlapping(self.shown(), below))
     }
 
     fn turn(&self) -> Facing {

@@ -1,8 +1,7 @@
 // Sums and negations that need no premise: they are exact wherever the result can be handed to a call.
 ghost use mathlib.Core.Path.{_≡_};
 ghost use mathlib.Core.Bool.{true};
-ghost use lib.IntN.{_+ℤ_, _-ℤ_, negℤ};
-ghost use Rattle.plate.specs.World.{within};
+ghost use lib.IntN.{_+ℤ_, negℤ};
 ghost use Rattle.plate.specs.Piles.{handable};
 ghost use Rattle.layer.specs.Views.{overlap, clipped as clippedOf};
 use plate::Window;
@@ -29,13 +28,6 @@ pub(crate) fn added(a: i32, b: i32) -> i32
     ensures { λ r. ⌜ (handable (a +ℤ b) ≡ true → r ≡ a +ℤ b) ⌝ }
 {
     a.saturating_add(b)
-}
-
-// Exact for numbers of the world.
-pub(crate) fn less(a: i32, b: i32) -> i32
-    ensures { λ r. ⌜ (within a ≡ true → within b ≡ true → r ≡ a -ℤ b) ⌝ }
-{
-    a.saturating_sub(b)
 }
 
 pub(crate) fn overlapping(v: Window, w: Window) -> Window

@@ -14,7 +14,7 @@ use crate::Overlay;
 use crate::numbers::added;
 use crate::numbers::can_add;
 use crate::numbers::clipped;
-use crate::numbers::less;
+use crate::numbers::negated;
 use plate::Facing;
 use plate::Window;
 use plate::in_world;
@@ -84,11 +84,12 @@ pub impl Overlay for Shifting as ShiftingOverlay {
 
     fn view(&self, below: Window) -> Window {
         let (dx, dy) = self.held();
+        let (back, up) = (negated(dx), negated(dy));
         clipped(Window {
-            left: less(below.left, dx),
-            top: less(below.top, dy),
-            right: less(below.right, dx),
-            bottom: less(below.bottom, dy),
+            left: added(below.left, back),
+            top: added(below.top, up),
+            right: added(below.right, back),
+            bottom: added(below.bottom, up),
         })
     }
 

@@ -1,12 +1,9 @@
 use mathlib.Core.Path.{refl, sym, _∙_}
-use mir.Syntax.{w32}
-use mir.Val.{SFits}
-use borrow.Author.Needs.{needs}
 use Rattle.std.proofs.shelf.Signed.{toZ-ofZ}
 use Rattle.std.proofs.shelf.Tests.{and-parts}
 use Rattle.plate.specs.World.{world}
 use Rattle.plate.specs.Plates.{admits}
-use Rattle.layer.proofs.Opening.{pair, world-handable, ask-open, ask-closed}
+use Rattle.layer.proofs.Opening.{world-handable, ask-open, ask-closed}
 use Rattle.layer.proofs.OverPlate.ask.Needs as need
 
 pub returns-then-not-opens : need.returns-then-not-opens
@@ -24,13 +21,11 @@ pub returns : need.returns
 returns g c =
     let fx = c .fits .x in
     let fy = c .fits .y in
-    let hx : SFits w32 (c .map-px .result .0) = search needs in
-    let hy : SFits w32 (c .map-px .result .1) = search needs in
     let l = g .L·Overlay .layer (c .args .self .now .layer) in
     let opens = sym (simp toZ-ofZ at (c .if-not-opens .ensures tt)) in
     let parts = and-parts (world (c .args .x, c .args .y)) (admits l (c .args .x, c .args .y)) opens in
-    let at = (simp toZ-ofZ at (c .map-px .ensures)) (world-handable l (c .args .x, c .args .y) (g .L·Overlay .small (c .args .self .now .layer)) (parts .0)) in
+    let place = (simp toZ-ofZ at (c .map-place .ensures)) (world-handable l (c .args .x, c .args .y) (g .L·Overlay .small (c .args .self .now .layer)) (parts .0)) in
     record {
-      value = ask-open l (g .P·Plate .window (c .args .self .now .below)) (g .P·Plate .lit (c .args .self .now .below)) (c .args .x, c .args .y) _ _ opens (pair _ _ _ _ (toZ-ofZ w32 _ hx) (toZ-ofZ w32 _ hy) ∙ at) (c .ask .ensures .value);
-      same = (refl, c .ask .ensures .same);
+      value = ask-open l (g .P·Plate .window (c .args .self .now .below)) (g .P·Plate .lit (c .args .self .now .below)) (c .args .x, c .args .y) _ _ opens place (c .ask-at .ensures .value);
+      same = (refl, c .ask-at .ensures .same);
     }

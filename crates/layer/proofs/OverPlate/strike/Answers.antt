@@ -1,12 +1,9 @@
 use mathlib.Core.Path.{refl, sym, subst, _∙_}
-use mir.Syntax.{w32}
-use mir.Val.{SFits}
-use borrow.Author.Needs.{needs}
 use Rattle.std.proofs.shelf.Signed.{toZ-ofZ}
 use Rattle.std.proofs.shelf.Tests.{and-parts}
 use Rattle.plate.specs.World.{world}
 use Rattle.plate.specs.Plates.{admits}
-use Rattle.layer.proofs.Opening.{pair, world-handable, strike-open, strike-closed, accepted-open, accepted-closed}
+use Rattle.layer.proofs.Opening.{world-handable, strike-open, strike-closed, accepted-open, accepted-closed}
 use Rattle.layer.proofs.OverPlate.strike.Needs as need
 
 pub returns-then-not-opens : need.returns-then-not-opens
@@ -25,15 +22,12 @@ pub returns : need.returns
 returns g c =
     let fx = c .fits .x in
     let fy = c .fits .y in
-    let hx : SFits w32 (c .map-px .result .0) = search needs in
-    let hy : SFits w32 (c .map-px .result .1) = search needs in
     let s = c .args .self .now in
     let l = g .L·Overlay .layer (s .layer) in
     let opens = sym (simp toZ-ofZ at (c .if-not-opens .ensures tt)) in
     let parts = and-parts (world (c .args .x, c .args .y)) (admits l (c .args .x, c .args .y)) opens in
-    let at = (simp toZ-ofZ at (c .map-px .ensures)) (world-handable l (c .args .x, c .args .y) (g .L·Overlay .small (s .layer)) (parts .0)) in
-    let place = pair _ _ _ _ (toZ-ofZ w32 _ hx) (toZ-ofZ w32 _ hy) ∙ at in
+    let place = (simp toZ-ofZ at (c .map-place .ensures)) (world-handable l (c .args .x, c .args .y) (g .L·Overlay .small (s .layer)) (parts .0)) in
     record {
-      answer = strike-open l (g .P·Plate .window (s .below)) (g .P·Plate .shots (s .below)) (c .args .x, c .args .y) _ _ opens place (c .strike .ensures .answer);
-      history = (refl, subst (λ zs. g .P·Plate .strikes (s .below) zs (c .strike .last .self)) (accepted-open l (g .P·Plate .window (s .below)) (g .P·Plate .shots (s .below)) (c .args .x, c .args .y) _ (c .args .ink) opens place) (c .strike .ensures .history));
+      answer = strike-open l (g .P·Plate .window (s .below)) (g .P·Plate .shots (s .below)) (c .args .x, c .args .y) _ _ opens place (c .strike-at .ensures .answer);
+      history = (refl, subst (λ zs. g .P·Plate .strikes (s .below) zs (c .strike-at .last .plate)) (accepted-open l (g .P·Plate .window (s .below)) (g .P·Plate .shots (s .below)) (c .args .x, c .args .y) _ (c .args .ink) opens place) (c .strike-at .ensures .history));
     }

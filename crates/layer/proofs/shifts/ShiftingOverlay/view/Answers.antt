@@ -14,12 +14,20 @@ returns c =
     let fb : SFits w32 (c .args .below .bottom) = search needs in
     let da : SFits w32 (c .held-dx .result .0) = search needs in
     let db : SFits w32 (c .held-dx .result .1) = search needs in
-    let rl : SFits w32 (c .less .result) = search needs in
-    let rt : SFits w32 (c .less-2 .result) = search needs in
-    let rr : SFits w32 (c .less-3 .result) = search needs in
-    let rb : SFits w32 (c .less-4 .result) = search needs in
-    let l = simp toZ-ofZ at (c .less .ensures) in
-    let t = simp toZ-ofZ at (c .less-2 .ensures) in
-    let r = simp toZ-ofZ at (c .less-3 .ensures) in
-    let b = simp toZ-ofZ at (c .less-4 .ensures) in
-    λ framed. c .clipped .ensures ∙ shift-view (c .held-dx .result .0) (c .held-dx .result .1) _ (c .held-dx .ensures .layer) (c .args .below) (c .held-dx .ensures .small) _ _ _ _ (λ p q. toZ-ofZ w32 _ rl ∙ l p q) (λ p q. toZ-ofZ w32 _ rt ∙ t p q) (λ p q. toZ-ofZ w32 _ rr ∙ r p q) (λ p q. toZ-ofZ w32 _ rb ∙ b p q) framed
+    let nx : SFits w32 (c .negated-back .result) = search needs in
+    let ny : SFits w32 (c .negated-up .result) = search needs in
+    let rl : SFits w32 (c .added .result) = search needs in
+    let rt : SFits w32 (c .added-2 .result) = search needs in
+    let rr : SFits w32 (c .added-3 .result) = search needs in
+    let rb : SFits w32 (c .added-4 .result) = search needs in
+    let back = simp toZ-ofZ at (c .negated-back .ensures) in
+    let up = simp toZ-ofZ at (c .negated-up .ensures) in
+    let l = simp toZ-ofZ at (c .added .ensures) in
+    let t = simp toZ-ofZ at (c .added-2 .ensures) in
+    let r = simp toZ-ofZ at (c .added-3 .ensures) in
+    let b = simp toZ-ofZ at (c .added-4 .ensures) in
+    λ framed.
+    c .clipped .ensures
+    ∙ shift-view (c .held-dx .result .0) (c .held-dx .result .1) _ (c .held-dx .ensures .layer) (c .args .below) (c .held-dx .ensures .small)
+    (c .negated-back .result) (c .negated-up .result) _ _ _ _ back up
+    (λ h. toZ-ofZ w32 _ rl ∙ l h) (λ h. toZ-ofZ w32 _ rt ∙ t h) (λ h. toZ-ofZ w32 _ rr ∙ r h) (λ h. toZ-ofZ w32 _ rb ∙ b h) framed
