@@ -1,11 +1,22 @@
-// Examples of plates, figures and printed lines together, as tests: each is proved to end safely, and then run.
-// What they show is told in docs/PLATES.md, docs/FIGURES.md and docs/PRINTING.md.
+// Examples of plates, layers, figures and printed lines together, as tests: each is proved to end safely, and then run.
+// What they show is told in docs/PLATES.md, docs/LAYERS.md, docs/FIGURES.md and docs/PRINTING.md.
 #[cfg(test)]
 mod tests {
     use bitmap::Bitmap;
     use bitmap::BitmapPlate;
+    use cached::Cached;
+    use cached::CachedPlate;
     use figure::FigureRefusalNumber;
     use figure::line;
+    use layer::MaskingOverlay;
+    use layer::OverPlate;
+    use layer::ShiftingOverlay;
+    use layer::TurningOverlay;
+    use layer::mask_over;
+    use layer::shift_over;
+    use layer::turn_over;
+    use pile::exchanges_axes;
+    use pile::place_of;
     use plate::Ink;
     use plate::Plate;
     use plate::Refusal;
@@ -150,5 +161,27 @@ mod tests {
         let cause = StrikeRefusal::Outside;
         check(matches!(write_refusal(&mut out, &cause, 7, 10), Ok(28)))?;
         check_eq(&out, b"refused 20 line 7 column 10\n--")
+    }
+
+    // A question changes how this plate is kept; a line through a mask and a turn runs on it all the same.
+    #[test]
+    fn line_on_a_plate_that_questions_change() -> Result<(), Fail> {
+        let quarter = turn_over(1, shift_over(15, 0, Cached::new(40)));
+        let shown = Window {
+            left: 2,
+            top: 0,
+            right: 15,
+            bottom: 15,
+        };
+        let mut pile = mask_over(shown, quarter);
+        check(matches!(line(&mut pile, (0, 3), (9, 3), Ink::Light), Ok(8)))?;
+        check(matches!(line(&mut pile, (5, 0), (5, 15), Ink::Flip), Ok(16)))?;
+        check_eq(pile.ask(1, 3), None)?;
+        check_eq(pile.ask(2, 3), Some(true))?;
+        check_eq(pile.ask(5, 3), Some(false))?;
+        check_eq(pile.ask(5, 4), Some(true))?;
+        check_eq(pile.shots(), 16)?;
+        check_eq(place_of(&mut pile, (9, 3)), Some((12, 9)))?;
+        check(exchanges_axes(&mut pile))
     }
 }
