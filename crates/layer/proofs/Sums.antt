@@ -16,7 +16,7 @@ use Rattle.std.specs.declared.option.Option.{Option}
 use Rattle.std.specs.declared.option.Option.the-variants.{Some, None}
 use Rattle.plate.specs.declared.Facing.{Facing}
 use Rattle.plate.specs.declared.Window.{Window}
-use Rattle.plate.specs.World.{Dot, within, world, empty, canonical}
+use Rattle.plate.specs.World.{Dot, within, world, empty, canonical, bounded, windowOf}
 use Rattle.plate.specs.Plates.{Framed, Layer, shift, step, turned}
 use Rattle.plate.specs.Piles.{handable, handableDot, exchanges, negatesFirst, negatesSecond}
 use Rattle.plate.specs.Windows.{le-true, within-orders, world-parts, orders-inside}
@@ -136,3 +136,11 @@ abs-few (negsuc k) n low high = absurd (omega (arith, ints))
 pub turn-few : (z : ℤ) → turnNumber z ≡ true → natAbs z ≤ 7
 unfolding turnNumber
 turn-few z t = let a = and-parts (leZ (pos 0) z) (leZ z (pos 7)) t in abs-few z 7 (omega (arith, ints)) (omega (arith, ints))
+
+-- a plate's window, given as bounds, makes itself
+pub windowOf-framed : (w : Window) → Framed w → windowOf w ≡ w
+unfolding bounded world
+windowOf-framed w f =
+    let k = framed-bounded w f in
+    cond-true (bounded w) (canonical w) empty (and-from (within (w .left) && within (w .top)) (within (w .right) && within (w .bottom)) (and-from (within (w .left)) (within (w .top)) (k .left) (k .top)) (and-from (within (w .right)) (within (w .bottom)) (k .right) (k .bottom)))
+    ∙ f .told

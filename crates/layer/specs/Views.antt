@@ -4,9 +4,9 @@ use lib.IntN.{ℤ, pos, negsuc, _-ℤ_, negℤ}
 use Rattle.std.specs.Numbers.{maxZ, minZ}
 use Rattle.plate.specs.declared.Facing.{Facing}
 use Rattle.plate.specs.declared.Window.{Window}
-use Rattle.plate.specs.World.{canonical}
-use Rattle.plate.specs.Plates.{Layer, mask, shift, turn}
-use Rattle.plate.specs.Piles.{exchanges, negatesFirst, negatesSecond}
+use Rattle.plate.specs.World.{Dot, canonical}
+use Rattle.plate.specs.Plates.{Layer, mask, shift, turn, step}
+use Rattle.plate.specs.Piles.{exchanges, negatesFirst, negatesSecond, handableDot}
 
 -- all dots of the world
 abbrev pub whole : Window
@@ -43,3 +43,7 @@ pulled (turn k) w = unturned k w
 -- the window above a layer
 abbrev pub view : Layer → Window → Window
 view l w = clipped (pulled l w)
+
+-- the place below of a dot above; a dot whose place no call can be handed stays where it is
+abbrev pub placeBelow : Layer → Dot → Dot
+placeBelow l p = cond (handableDot (step l p)) (step l p) p

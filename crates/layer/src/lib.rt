@@ -7,11 +7,11 @@ ghost use mathlib.Core.Bool.{true, _&&_};
 ghost use mathlib.Core.List.{[], _∷_};
 ghost use denote.Ref.{now};
 ghost use Rattle.plate.specs.declared.Window.{Window};
-ghost use Rattle.plate.specs.World.{Dot, world};
-ghost use Rattle.plate.specs.Plates.{Layer, Framed, step, admits, near, asked, strikeAnswer, accepted};
+ghost use Rattle.plate.specs.World.{world, windowOf};
+ghost use Rattle.plate.specs.Plates.{Layer, step, admits, near, asked, strikeAnswer, accepted};
 ghost use Rattle.plate.specs.Answers.{told, strikeNumber};
 ghost use Rattle.plate.specs.Piles.{handableDot, turnOf};
-ghost use Rattle.layer.specs.Views.{view};
+ghost use Rattle.layer.specs.Views.{view, placeBelow};
 ghost use Rattle.layer.specs.Layers.{layerNumber};
 ghost use Rattle.layer.specs.LayerLaws.{layer-laws, Lowered};
 
@@ -66,9 +66,9 @@ pub trait Overlay {
 
     ghost small: { (s : Self) → near (layer s) ≡ true };
 
-    // The place below of a dot above; a dot whose place no call can be handed is nowhere, and is answered as anything.
+    // The place below of a dot above; a dot whose place no call can be handed stays where it is.
     fn map(&self, at: (i32, i32)) -> (i32, i32)
-        ensures { λ r. ⌜ (handableDot (step (layer (now (self .entry))) at) ≡ true → r ≡ step (layer (now (self .entry))) at) ⌝ };
+        ensures { λ r. ⌜ r ≡ placeBelow (layer (now (self .entry))) at ⌝ };
 
     // Whether the place below can be handed to a call.
     fn reaches(&self, at: (i32, i32)) -> bool
@@ -78,9 +78,9 @@ pub trait Overlay {
     fn admits(&self, at: (i32, i32)) -> bool
         ensures { λ r. ⌜ r ≡ admits (layer (now (self .entry))) at ⌝ };
 
-    // The window above, by the window below.
+    // The window above, by the window that these bounds make below.
     fn view(&self, below: Window) -> Window
-        ensures { λ r. ⌜ (Framed below → r ≡ view (layer (now (self .entry))) below) ⌝ };
+        ensures { λ r. ⌜ r ≡ view (layer (now (self .entry))) (windowOf below) ⌝ };
 
     fn turn(&self) -> Facing
         ensures { λ r. ⌜ r ≡ turnOf (layer (now (self .entry))) ⌝ };

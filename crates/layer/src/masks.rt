@@ -55,6 +55,7 @@ pub impl Overlay for Masking as MaskingOverlay {
     }
 
     fn view(&self, below: Window) -> Window {
+        let below = below.made();
         clipped(overlapping(self.shown(), below))
     }
 

@@ -4,8 +4,7 @@ ghost use mathlib.Core.Bool.{true, cond};
 ghost use lib.IntN.{pos};
 ghost use Rattle.plate.specs.World.{world};
 ghost use Rattle.plate.specs.Answers.{told, done, refused};
-ghost use Rattle.plate.specs.Plates.{shift, Framed};
-ghost use Rattle.layer.specs.Views.{pulled};
+ghost use Rattle.plate.specs.Plates.{shift};
 ghost use Rattle.layer.specs.Layers.{layerNumber, shiftLayer, shiftBy};
 ghost use Rattle.layer.specs.LayerLaws.{shift-near};
 use crate::LayerRefusal;
@@ -69,6 +68,9 @@ pub impl Overlay for Shifting as ShiftingOverlay {
     ghost small = { λ s. shift-near (s .dx) (s .dy) };
 
     fn map(&self, at: (i32, i32)) -> (i32, i32) {
+        if !self.reaches(at) {
+            return at;
+        }
         let (dx, dy) = self.held();
         (added(at.0, dx), added(at.1, dy))
     }
@@ -85,6 +87,7 @@ pub impl Overlay for Shifting as ShiftingOverlay {
     fn view(&self, below: Window) -> Window {
         let (dx, dy) = self.held();
         let (back, up) = (negated(dx), negated(dy));
+        let below = below.made();
         clipped(Window {
             left: added(below.left, back),
             top: added(below.top, up),

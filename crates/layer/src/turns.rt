@@ -140,6 +140,9 @@ pub impl Overlay for Turning as TurningOverlay {
     ghost small = { λ s. refl };
 
     fn map(&self, at: (i32, i32)) -> (i32, i32) {
+        if !self.reaches(at) {
+            return at;
+        }
         turned(self.facing, at.0, at.1)
     }
 
@@ -152,7 +155,7 @@ pub impl Overlay for Turning as TurningOverlay {
     }
 
     fn view(&self, below: Window) -> Window {
-        clipped(unturned(self.facing, below))
+        clipped(unturned(self.facing, below.made()))
     }
 
     fn turn(&self) -> Facing {
