@@ -18,7 +18,10 @@ use Rattle.plate.specs.Answers.{Answer, done, refused}
 use Rattle.plate.specs.Plates.{Strike, Layer, Meaning, Laws}
 use Rattle.plate.specs.Windows.{world-parts}
 use Rattle.figure.specs.Drawing.{visible, inkedWith, figureAnswer, figureStrikes}
+use Rattle.figure.specs.declared.shapes.Shape.{Shape}
+use Rattle.figure.specs.declared.shapes.Shape.the-variants.{Line}
 use Rattle.figure.specs.Lines.{longer, lineDot, lineDots, dotsFrom, lineCause}
+use Rattle.figure.specs.Shapes.{Sound, shapeDots}
 use Rattle.figure.proofs.Crossings.{gap-few}
 
 cond-few : (b : Bool) (p : Dot) (ps : List Dot) (n : ℕ) → length ps ≤ n → length (cond b (p ∷ ps) ps) ≤ suc n
@@ -34,7 +37,7 @@ dots-length dot k zero = refl
 dots-length dot k (suc n) = ap suc (dots-length dot (suc k) n)
 
 -- the dots of a line can be counted
-pub line-few : (w : Window) (p q : Dot) → world p ≡ true → world q ≡ true → length (visible w (lineDots p q)) < 2 ^ 32
+line-few : (w : Window) (p q : Dot) → world p ≡ true → world q ≡ true → length (visible w (lineDots p q)) < 2 ^ 32
 unfolding lineDots
 line-few w p q f g =
     let a = world-parts p f in
@@ -44,6 +47,9 @@ line-few w p q f g =
     let v = visible-few w (lineDots p q) in
     let n : length (lineDots p q) ≡ longer p q + 1 = dots-length (lineDot p q) 0 (longer p q + 1) in
     omega arith
+
+pub shape-few : (w : Window) (shape : Shape) → Sound shape → length (visible w (shapeDots shape)) < 2 ^ 32
+shape-few w (Line from to) s = line-few w from to (s .0) (s .1)
 
 pub no-cause : (p q : Dot) → world p ≡ true → world q ≡ true → lineCause p q ≡ None
 no-cause p q f g = cond-true (world p && world q) None _ (and-from (world p) (world q) f g)

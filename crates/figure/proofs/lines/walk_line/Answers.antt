@@ -8,7 +8,7 @@ use native.Mathlib.Omega.{arith}
 use Rattle.std.proofs.shelf.Signed.{toZ-ofZ}
 use Rattle.figure.specs.Lines.{longer, lineDot, lineDots, dotsFrom}
 use Rattle.figure.proofs.Walks.{start, turn, finish, all-dots, next-dot, no-dot}
-use Rattle.figure.proofs.walk_line.Needs as need
+use Rattle.figure.proofs.lines.walk_line.Needs as need
 
 pub loop-k-holds : need.loop-k-holds
 loop-k-holds g c = start (g .V·Visitor .laws) _ _ _ (all-dots (c .args .from) (c .args .to))

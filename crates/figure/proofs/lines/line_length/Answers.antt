@@ -5,7 +5,7 @@ use native.Mathlib.Omega.{arith}
 use Rattle.std.proofs.shelf.Signed.{toZ-ofZ}
 use Rattle.plate.specs.Windows.{world-parts}
 use Rattle.figure.proofs.Crossings.{gap-few}
-use Rattle.figure.proofs.line_length.Needs as need
+use Rattle.figure.proofs.lines.line_length.Needs as need
 
 pub add-result : need.add-result
 add-result c =

@@ -7,7 +7,7 @@ use Rattle.std.proofs.shelf.Signed.{toZ-ofZ}
 use Rattle.plate.specs.World.{within}
 use Rattle.plate.specs.Windows.{world-parts}
 use Rattle.figure.proofs.Crossings.{gap-few}
-use Rattle.figure.proofs.line_dot.Needs as need
+use Rattle.figure.proofs.lines.line_dot.Needs as need
 
 pub steps-made-right-requires : need.steps-made-right-requires
 steps-made-right-requires c κs =

@@ -1,7 +1,7 @@
 use mathlib.Core.Path.{refl, sym, _∙_}
 use Rattle.std.proofs.shelf.Signed.{toZ-ofZ}
 use Rattle.figure.proofs.Strokes.{struck-one, passed-over}
-use Rattle.figure.proofs.StrikerVisitor.visit.Needs as need
+use Rattle.figure.proofs.visits.StrikerVisitor.visit.Needs as need
 
 pub returns-then-is-some : need.returns-then-is-some
 returns-then-is-some g c =

@@ -4,7 +4,7 @@ use native.Mathlib.Omega.{arith}
 use Rattle.std.proofs.shelf.Signed.{ints, toZ-ofZ}
 use Rattle.plate.specs.Windows.{within-orders}
 use Rattle.figure.proofs.Crossings.{toward-up, toward-down}
-use Rattle.figure.proofs.stepped.Needs as need
+use Rattle.figure.proofs.lines.stepped.Needs as need
 
 pub add-result : need.add-result
 add-result c = let w = within-orders (c .args .from) (c .pre .0) in let n = c .pre .1 in omega (arith, ints)

@@ -2,7 +2,7 @@ use mathlib.Core.Path.{_≡_, ap, _∙_}
 use Prim.Native.Nat.{_/_, _*_}
 use native.Mathlib.Omega.{arith}
 use Rattle.figure.proofs.Crossings.{across-none, across-some, across-few}
-use Rattle.figure.proofs.steps_across.Needs as need
+use Rattle.figure.proofs.lines.steps_across.Needs as need
 
 pub returns-then-long-eq0 : need.returns-then-long-eq0
 returns-then-long-eq0 c = record { value = across-none _ (c .args .short) (c .args .k) (c .if-long-eq0 .taken); few = omega arith }

@@ -1,6 +1,6 @@
 use native.Mathlib.Omega.{arith}
 use Rattle.figure.proofs.Crossings.{made-wide, made-tall}
-use Rattle.figure.proofs.steps_made.Needs as need
+use Rattle.figure.proofs.lines.steps_made.Needs as need
 
 pub returns-then-tall-wide : need.returns-then-tall-wide
 returns-then-tall-wide c = record { value = made-wide _ _ _ _ (c .if-tall-wide .taken) (c .steps-across .ensures .value); few = (omega arith, c .steps-across .ensures .few) }

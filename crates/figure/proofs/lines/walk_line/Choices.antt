@@ -2,7 +2,7 @@ use mathlib.Core.Path.{_≡_}
 use Prim.Native.Nat.{_+_, _-_}
 use Rattle.figure.specs.Lines.{longer, lineDot, lineDots, dotsFrom}
 use Rattle.figure.proofs.Walks.{Walked}
-use Rattle.figure.proofs.walk_line.Given as given
+use Rattle.figure.proofs.lines.walk_line.Given as given
 
 abbrev pub Inv-loop-k : given.InvT-loop-k
 Inv-loop-k g l =
