@@ -3,4 +3,5 @@ mod Crossings
 mod Walks
 mod Calls
 mod Once
+mod Kept
 pub mod Totals

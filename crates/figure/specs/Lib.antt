@@ -2,4 +2,6 @@ pub mod Drawing
 pub mod Visits
 pub mod VisitorLaws
 pub mod Lines
+pub mod Corners
+pub mod Outlines
 pub mod Shapes

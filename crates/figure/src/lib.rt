@@ -16,6 +16,7 @@ use shapes::Shape;
 use shapes::draw;
 
 mod lines;
+mod outlines;
 mod shapes;
 mod visits;
 
