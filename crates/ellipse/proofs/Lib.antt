@@ -1,0 +1,7 @@
+pub mod Shape
+pub mod Conic
+pub mod Laws
+pub mod Order
+pub mod Listing
+pub mod Places
+pub mod Rows
