@@ -3,25 +3,29 @@ use mathlib.Core.Path.{_≡_, refl, sym, ap, subst, _∙_}
 use mathlib.Core.Bool.{Bool, true, false, _&&_, cond}
 use mathlib.Core.List.{List, [], _∷_}
 use mathlib.Core.Logic.{inl, inr}
-use Prim.Native.Nat.{ℕ, zero, suc, _+_, _≤_, _<_, _^_, max}
+use Prim.Native.Nat.{ℕ, zero, suc, _+_, _*_, _≤_, _<_, _^_, max}
 use native.Mathlib.Omega.{arith}
 use lib.Dec.{leb}
 use lib.ListN.{length, take}
 use Rattle.std.specs.declared.option.Option.{Option}
 use Rattle.std.specs.declared.option.Option.the-variants.{None}
-use Rattle.std.proofs.shelf.Lists.{take-all}
-use Rattle.std.proofs.shelf.Tests.{cond-true, cond-false, le-leb, lt-leb, and-from}
+use Rattle.std.proofs.shelf.Lists.{take-all, length-append}
+use Rattle.std.proofs.shelf.Bits.{mul-le}
+use Rattle.std.proofs.shelf.Tests.{cases-bool, cond-true, cond-false, le-leb, lt-leb, and-from}
 use Rattle.plate.specs.declared.Ink.{Ink}
 use Rattle.plate.specs.declared.Window.{Window}
 use Rattle.plate.specs.World.{Dot, inside, world}
 use Rattle.plate.specs.Answers.{Answer, done, refused}
 use Rattle.plate.specs.Plates.{Strike, Layer, Meaning, Laws}
 use Rattle.plate.specs.Windows.{world-parts}
-use Rattle.figure.specs.Drawing.{visible, inkedWith, figureAnswer, figureStrikes}
+use Rattle.figure.specs.Drawing.{visible, has, inkedWith, figureAnswer, figureStrikes}
 use Rattle.figure.specs.declared.shapes.Shape.{Shape}
-use Rattle.figure.specs.declared.shapes.Shape.the-variants.{Line}
+use Rattle.figure.specs.declared.shapes.Shape.the-variants.{Line, Outline}
 use Rattle.figure.specs.Lines.{longer, lineDot, lineDots, dotsFrom, lineCause}
+use Rattle.figure.specs.Outlines.{corners, once, outlineDots}
 use Rattle.figure.specs.Shapes.{Sound, shapeDots}
+use Rattle.ellipse.specs.Ellipses.{lighted, column, columns, pairs}
+use Rattle.figure.proofs.Kept.{pairDots}
 use Rattle.figure.proofs.Crossings.{gap-few}
 
 cond-few : (b : Bool) (p : Dot) (ps : List Dot) (n : ℕ) → length ps ≤ n → length (cond b (p ∷ ps) ps) ≤ suc n
@@ -48,8 +52,42 @@ line-few w p q f g =
     let n : length (lineDots p q) ≡ longer p q + 1 = dots-length (lineDot p q) 0 (longer p q + 1) in
     omega arith
 
+-- the pairs of a column, of some columns; the dots of pairs
+column-few : (p : ℕ → ℕ → Bool) (x k : ℕ) → length (column p x k) ≤ k
+column-few p x zero = omega arith
+column-few p x (suc k) = pair-few (p x k) (x, k) (column p x k) k (column-few p x k)
+  where
+    pair-few : (b : Bool) (q : ℕ × ℕ) (ps : List (ℕ × ℕ)) (n : ℕ) → length ps ≤ n → length (cond b (q ∷ ps) ps) ≤ suc n
+    pair-few true q ps n h = omega arith
+    pair-few false q ps n h = omega arith
+
+columns-few : (p : ℕ → ℕ → Bool) (b x n : ℕ) → length (columns p b x n) ≤ n * suc b
+columns-few p b x zero = omega arith
+columns-few p b x (suc n) = let h = column-few p x (suc b) in let k = columns-few p b (suc x) n in simp length-append (omega arith)
+
+pairs-few : (c : Dot) (ps : List (ℕ × ℕ)) → length (pairDots c ps) ≤ 4 * length ps
+pairs-few c [] = omega arith
+pairs-few c (p ∷ ps) = let h = once-few [] (corners c p) in let k = pairs-few c ps in simp length-append (omega arith)
+  where
+    once-few : (named ds : List Dot) → length (once named ds) ≤ length ds
+    once-few named [] = omega arith
+    once-few named (d ∷ ds) = elim (cases-bool (has d named)) [
+      | inl t ↦ (let h = once-few named ds in simp t (omega arith))
+      | inr f ↦ (let h = once-few (d ∷ named) ds in simp f (omega arith))
+    ]
+
+outline-few : (w : Window) (c : Dot) (a b : ℕ) → a ≤ 4095 → b ≤ 4095 → length (visible w (outlineDots c a b)) < 2 ^ 32
+unfolding outlineDots pairs
+outline-few w c a b f g =
+    let v = visible-few w (outlineDots c a b) in
+    let k = pairs-few c (pairs a b) in
+    let n = columns-few (lighted a b) b 0 (suc a) in
+    let m : suc a * suc b ≤ 4096 * 4096 = mul-le (suc a) (suc b) 4096 4096 (omega arith) (omega arith) in
+    omega (arith, m)
+
 pub shape-few : (w : Window) (shape : Shape) → Sound shape → length (visible w (shapeDots shape)) < 2 ^ 32
 shape-few w (Line from to) s = line-few w from to (s .0) (s .1)
+shape-few w (Outline c a b) s = outline-few w c a b (s .1) (s .2)
 
 pub no-cause : (p q : Dot) → world p ≡ true → world q ≡ true → lineCause p q ≡ None
 no-cause p q f g = cond-true (world p && world q) None _ (and-from (world p) (world q) f g)

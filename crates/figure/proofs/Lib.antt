@@ -4,4 +4,5 @@ mod Walks
 mod Calls
 mod Once
 mod Kept
+mod Axes
 pub mod Totals

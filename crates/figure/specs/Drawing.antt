@@ -13,10 +13,11 @@ use Rattle.plate.specs.World.{Dot, inside}
 use Rattle.plate.specs.Answers.{Answer, done, refused}
 use Rattle.plate.specs.Plates.{Strike, same}
 use Rattle.figure.specs.declared.FigureRefusal.{FigureRefusal}
-use Rattle.figure.specs.declared.FigureRefusal.the-variants.{BeyondWorld, TooFewShots}
+use Rattle.figure.specs.declared.FigureRefusal.the-variants.{BeyondWorld, BadAxis, TooFewShots}
 
 abbrev pub figureNumber : FigureRefusal → ℕ
 figureNumber BeyondWorld = 1
+figureNumber BadAxis = 2
 figureNumber TooFewShots = 22
 
 -- the visible dots: those in the window, in their order

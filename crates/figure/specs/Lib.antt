@@ -4,4 +4,5 @@ pub mod VisitorLaws
 pub mod Lines
 pub mod Corners
 pub mod Outlines
+pub mod Axes
 pub mod Shapes

@@ -9,6 +9,7 @@ ghost use Rattle.figure.specs.Drawing.{figureNumber, visible, inkedWith, figur
 ghost use Rattle.figure.specs.Shapes.{Sound, shapeDots};
 use crate::FigureRefusal;
 use crate::lines::walk_line;
+use crate::outlines::walk_outline;
 use crate::visits::Counter;
 use crate::visits::CounterVisitor;
 use crate::visits::Striker;
@@ -21,6 +22,7 @@ use plate::Plate;
 #[derive(Clone, Copy)]
 pub(crate) enum Shape {
     Line((i32, i32), (i32, i32)),
+    Outline((i32, i32), u16, u16),
 }
 
 // Hands a visitor the dots of a figure, in their order.
@@ -30,6 +32,7 @@ fn walk<V: Visitor>(visitor: &mut V, shape: Shape)
 {
     match shape {
         Shape::Line(from, to) => walk_line(visitor, from, to),
+        Shape::Outline(centre, a, b) => walk_outline(visitor, centre, a, b),
     }
 }
 
