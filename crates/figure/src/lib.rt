@@ -86,6 +86,7 @@ pub fn outline<P: Plate>(
 ) -> Result<u32, FigureRefusal>
     ensures answer { λ r. ⌜ told figureNumber r ≡ figureAnswer (ellipseCause centre a b) (outlineDots centre (natAbs a) (natAbs b)) (P·Plate .window (now (plate .entry))) (P·Plate .shots (now (plate .entry))) ⌝ }
     ensures history { λ _. ⌜ P·Plate .strikes (now (plate .entry)) (figureStrikes (ellipseCause centre a b) (outlineDots centre (natAbs a) (natAbs b)) (P·Plate .window (now (plate .entry))) (P·Plate .shots (now (plate .entry))) ink) (now (plate .exit)) ⌝ }
+    ensures once { λ _. ⌜ Distinct (outlineDots centre (natAbs a) (natAbs b)) ⌝ }
 {
     let (across, along) = checked_axes(centre, a, b)?;
     draw(plate, Shape::Outline(centre, across, along), ink)
@@ -100,6 +101,7 @@ pub fn circle<P: Plate>(
 ) -> Result<u32, FigureRefusal>
     ensures answer { λ r. ⌜ told figureNumber r ≡ figureAnswer (ellipseCause centre radius radius) (outlineDots centre (natAbs radius) (natAbs radius)) (P·Plate .window (now (plate .entry))) (P·Plate .shots (now (plate .entry))) ⌝ }
     ensures history { λ _. ⌜ P·Plate .strikes (now (plate .entry)) (figureStrikes (ellipseCause centre radius radius) (outlineDots centre (natAbs radius) (natAbs radius)) (P·Plate .window (now (plate .entry))) (P·Plate .shots (now (plate .entry))) ink) (now (plate .exit)) ⌝ }
+    ensures once { λ _. ⌜ Distinct (outlineDots centre (natAbs radius) (natAbs radius)) ⌝ }
 {
     outline(plate, centre, radius, radius, ink)
 }
