@@ -1,4 +1,6 @@
-// Figures on any plate: for now lines.
+// Figures on any plate: lines, outlines of ellipses, circles.
+// A call answers how many visible dots it struck, or refuses; the plate's history is then exactly these dots, in the figure's order, or none.
+// Read on in specs/Drawing.antt, specs/Lines.antt and specs/Outlines.antt, and in docs/FIGURES.md.
 ghost use mathlib.Core.Path.{_≡_};
 ghost use denote.Ref.{now};
 ghost use lib.IntN.{natAbs};

@@ -7,7 +7,9 @@ mod tests {
     use cached::Cached;
     use cached::CachedPlate;
     use figure::FigureRefusalNumber;
+    use figure::circle;
     use figure::line;
+    use figure::outline;
     use layer::MaskingOverlay;
     use layer::OverPlate;
     use layer::ShiftingOverlay;
@@ -183,5 +185,59 @@ mod tests {
         check_eq(pile.shots(), 16)?;
         check_eq(place_of(&mut pile, (9, 3)), Some((12, 9)))?;
         check(exchanges_axes(&mut pile))
+    }
+
+    // A circle of radius 4 has 24 dots, 7 of them in its last quarter with the axes.
+    #[test]
+    fn circle_by_its_shots() -> Result<(), Fail> {
+        let mut bytes = [0u8; 18];
+        {
+            let mut short = Bitmap::new(9, 9, 23, &mut bytes);
+            let Err(few) = circle(&mut short, (4, 4), 4, Ink::Light) else {
+                return Err(Fail::new("struck without shots"));
+            };
+            check_eq(few.number(), 22)?;
+        }
+        check_eq(bytes, [0u8; 18])?;
+        let mut bare = Bitmap::new(9, 9, 24, &mut bytes);
+        check(matches!(circle(&mut bare, (4, 4), 4, Ink::Light), Ok(24)))?;
+        check_eq(bare.shots(), 0)?;
+        let quarter = Window {
+            left: 4,
+            top: 4,
+            right: 8,
+            bottom: 8,
+        };
+        let mut other = [0u8; 18];
+        let mut six = mask_over(quarter, Bitmap::new(9, 9, 6, &mut other));
+        check(circle(&mut six, (4, 4), 4, Ink::Light).is_err())?;
+        let mut seven = mask_over(quarter, Bitmap::new(9, 9, 7, &mut other));
+        check(matches!(circle(&mut seven, (4, 4), 4, Ink::Light), Ok(7)))
+    }
+
+    #[test]
+    fn outlines_by_their_counts() -> Result<(), Fail> {
+        let mut records = [blank(); 200];
+        let wide = Window {
+            left: -20,
+            top: -20,
+            right: 20,
+            bottom: 20,
+        };
+        let mut strip = Strip::new(wide, &mut records);
+        check(matches!(outline(&mut strip, (0, 0), 4, 1, Ink::Light), Ok(16)))?;
+        check(matches!(outline(&mut strip, (0, 0), 7, 1, Ink::Light), Ok(28)))?;
+        check(matches!(outline(&mut strip, (0, 0), 8, 1, Ink::Light), Ok(30)))?;
+        check(matches!(outline(&mut strip, (0, 0), 15, 1, Ink::Light), Ok(56)))?;
+        check(matches!(outline(&mut strip, (0, 0), 0, 3, Ink::Light), Ok(7)))?;
+        check(matches!(outline(&mut strip, (0, 0), 0, 0, Ink::Light), Ok(1)))?;
+        let Err(axis) = outline(&mut strip, (0, 0), 4096, 1, Ink::Light) else {
+            return Err(Fail::new("a semi-axis too long"));
+        };
+        check_eq(axis.number(), 2)?;
+        let Err(centre) = outline(&mut strip, (32768, 0), -1, 1, Ink::Light) else {
+            return Err(Fail::new("a centre out of the world"));
+        };
+        check_eq(centre.number(), 1)
     }
 }
