@@ -5,4 +5,5 @@ mod Calls
 mod Once
 mod Kept
 mod Axes
+mod Reaches
 pub mod Totals
