@@ -6,6 +6,7 @@ use mathlib.Core.Logic.{inl, inr}
 use Prim.Native.Nat.{ℕ, zero, suc, _+_, _*_, _≤_, _<_, _^_, max}
 use native.Mathlib.Omega.{arith}
 use lib.Dec.{leb}
+use lib.IntN.{ℤ, pos, _+ℤ_, negℤ, natAbs}
 use lib.ListN.{length, take}
 use Rattle.std.specs.declared.option.Option.{Option}
 use Rattle.std.specs.declared.option.Option.the-variants.{None}
@@ -20,9 +21,10 @@ use Rattle.plate.specs.Plates.{Strike, Layer, Meaning, Laws}
 use Rattle.plate.specs.Windows.{world-parts}
 use Rattle.figure.specs.Drawing.{visible, has, inkedWith, figureAnswer, figureStrikes}
 use Rattle.figure.specs.declared.shapes.Shape.{Shape}
-use Rattle.figure.specs.declared.shapes.Shape.the-variants.{Line, Outline}
+use Rattle.figure.specs.declared.shapes.Shape.the-variants.{Line, Outline, Filled}
 use Rattle.figure.specs.Lines.{longer, lineDot, lineDots, dotsFrom, lineCause}
 use Rattle.figure.specs.Outlines.{corners, once, outlineDots}
+use Rattle.figure.specs.Fills.{filledPair, fillRow, fillRows, filledDots}
 use Rattle.figure.specs.Shapes.{Sound, shapeDots}
 use Rattle.ellipse.specs.Ellipses.{lighted, column, columns, pairs}
 use Rattle.figure.proofs.Kept.{pairDots}
@@ -85,9 +87,27 @@ outline-few w c a b f g =
     let m : suc a * suc b ≤ 4096 * 4096 = mul-le (suc a) (suc b) 4096 4096 (omega arith) (omega arith) in
     omega (arith, m)
 
+-- the dots of a row, of some rows
+row-few : (c : Dot) (a b : ℕ) (dy dx : ℤ) (n : ℕ) → length (fillRow c a b dy dx n) ≤ n
+row-few c a b dy dx zero = omega arith
+row-few c a b dy dx (suc n) = cond-few (filledPair a b (natAbs dx) (natAbs dy)) (c .0 +ℤ dx, c .1 +ℤ dy) (fillRow c a b dy (dx +ℤ pos 1) n) n (row-few c a b dy (dx +ℤ pos 1) n)
+
+rows-few : (c : Dot) (a b : ℕ) (dy : ℤ) (n : ℕ) → length (fillRows c a b dy n) ≤ n * (2 * a + 1)
+rows-few c a b dy zero = omega arith
+rows-few c a b dy (suc n) = let h = row-few c a b dy (negℤ (pos a)) (2 * a + 1) in let k = rows-few c a b (dy +ℤ pos 1) n in simp length-append (omega arith)
+
+filled-few : (w : Window) (c : Dot) (a b : ℕ) → a ≤ 4095 → b ≤ 4095 → length (visible w (filledDots c a b)) < 2 ^ 32
+unfolding filledDots
+filled-few w c a b f g =
+    let v = visible-few w (filledDots c a b) in
+    let n = rows-few c a b (negℤ (pos b)) (2 * b + 1) in
+    let m : (2 * b + 1) * (2 * a + 1) ≤ 8191 * 8191 = mul-le (2 * b + 1) (2 * a + 1) 8191 8191 (omega arith) (omega arith) in
+    omega (arith, m)
+
 pub shape-few : (w : Window) (shape : Shape) → Sound shape → length (visible w (shapeDots shape)) < 2 ^ 32
 shape-few w (Line from to) s = line-few w from to (s .0) (s .1)
 shape-few w (Outline c a b) s = outline-few w c a b (s .1) (s .2)
+shape-few w (Filled c a b) s = filled-few w c a b (s .1) (s .2)
 
 pub no-cause : (p q : Dot) → world p ≡ true → world q ≡ true → lineCause p q ≡ None
 no-cause p q f g = cond-true (world p && world q) None _ (and-from (world p) (world q) f g)

@@ -46,7 +46,7 @@ pub made-tall : (wide tall k r : ℕ) → wide < tall → r ≡ across tall wide
 unfolding stepsMade
 made-tall wide tall k r h e = ap (λ n. (n, k)) e ∙ sym (cond-false (leb tall wide) (k, across wide tall k) (across tall wide k, k) (lt-leb tall wide h))
 
-abs-few : (z : ℤ) (n : ℕ) → negℤ (pos n) ≤ℤ z → z ≤ℤ pos n → natAbs z ≤ n
+pub abs-few : (z : ℤ) (n : ℕ) → negℤ (pos n) ≤ℤ z → z ≤ℤ pos n → natAbs z ≤ n
 abs-few (pos k) n low high = omega (arith, ints)
 abs-few (negsuc k) n low high = omega (arith, ints)
 

@@ -6,4 +6,5 @@ mod Once
 mod Kept
 mod Axes
 mod Apart
+mod Reaches
 pub mod Totals

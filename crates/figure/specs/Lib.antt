@@ -5,4 +5,6 @@ pub mod Lines
 pub mod Corners
 pub mod Outlines
 pub mod Axes
+pub mod Fills
+pub mod Reaches
 pub mod Shapes

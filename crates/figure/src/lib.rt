@@ -1,6 +1,6 @@
-// Figures on any plate: lines, outlines of ellipses, circles.
+// Figures on any plate: lines, outlines of ellipses, circles, filled ellipses.
 // A call answers how many visible dots it struck, or refuses; the plate's history is then exactly these dots, in the figure's order, or none.
-// Read on in specs/Drawing.antt, specs/Lines.antt and specs/Outlines.antt, and in docs/FIGURES.md.
+// Read on in specs/Drawing.antt, specs/Lines.antt, specs/Outlines.antt and specs/Fills.antt, and in docs/FIGURES.md.
 ghost use mathlib.Core.Path.{_≡_};
 ghost use denote.Ref.{now};
 ghost use lib.IntN.{natAbs};
@@ -8,6 +8,7 @@ ghost use Rattle.plate.specs.Answers.{told};
 ghost use Rattle.figure.specs.Drawing.{figureNumber, Distinct, figureAnswer, figureStrikes};
 ghost use Rattle.figure.specs.Lines.{lineDots, lineCause};
 ghost use Rattle.figure.specs.Outlines.{outlineDots, semiAxis, ellipseCause};
+ghost use Rattle.figure.specs.Fills.{filledDots};
 ghost use Rattle.figure.specs.Axes.{AxesAre};
 use plate::Ink;
 use plate::Plate;
@@ -15,6 +16,7 @@ use plate::Refusal;
 use shapes::Shape;
 use shapes::draw;
 
+mod fills;
 mod lines;
 mod outlines;
 mod shapes;
@@ -106,4 +108,19 @@ pub fn circle<P: Plate>(
     ensures once { λ _. ⌜ Distinct (outlineDots centre (natAbs radius) (natAbs radius)) ⌝ }
 {
     outline(plate, centre, radius, radius, ink)
+}
+
+// Strikes the visible dots of the filled ellipse, row after row, and answers how many.
+pub fn filled<P: Plate>(
+    plate: &mut P,
+    centre: (i32, i32),
+    a: i32,
+    b: i32,
+    ink: Ink,
+) -> Result<u32, FigureRefusal>
+    ensures answer { λ r. ⌜ told figureNumber r ≡ figureAnswer (ellipseCause centre a b) (filledDots centre (natAbs a) (natAbs b)) (P·Plate .window (now (plate .entry))) (P·Plate .shots (now (plate .entry))) ⌝ }
+    ensures history { λ _. ⌜ P·Plate .strikes (now (plate .entry)) (figureStrikes (ellipseCause centre a b) (filledDots centre (natAbs a) (natAbs b)) (P·Plate .window (now (plate .entry))) (P·Plate .shots (now (plate .entry))) ink) (now (plate .exit)) ⌝ }
+{
+    let (across, along) = checked_axes(centre, a, b)?;
+    draw(plate, Shape::Filled(centre, across, along), ink)
 }

@@ -8,6 +8,7 @@ ghost use Rattle.plate.specs.Answers.{told};
 ghost use Rattle.figure.specs.Drawing.{figureNumber, visible, inkedWith, figureAnswer, figureStrikes};
 ghost use Rattle.figure.specs.Shapes.{Sound, shapeDots};
 use crate::FigureRefusal;
+use crate::fills::walk_filled;
 use crate::lines::walk_line;
 use crate::outlines::walk_outline;
 use crate::visits::Counter;
@@ -23,6 +24,7 @@ use plate::Plate;
 pub(crate) enum Shape {
     Line((i32, i32), (i32, i32)),
     Outline((i32, i32), u16, u16),
+    Filled((i32, i32), u16, u16),
 }
 
 // Hands a visitor the dots of a figure, in their order.
@@ -33,6 +35,7 @@ fn walk<V: Visitor>(visitor: &mut V, shape: Shape)
     match shape {
         Shape::Line(from, to) => walk_line(visitor, from, to),
         Shape::Outline(centre, a, b) => walk_outline(visitor, centre, a, b),
+        Shape::Filled(centre, a, b) => walk_filled(visitor, centre, a, b),
     }
 }
 

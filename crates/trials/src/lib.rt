@@ -8,6 +8,7 @@ mod tests {
     use cached::CachedPlate;
     use figure::FigureRefusalNumber;
     use figure::circle;
+    use figure::filled;
     use figure::line;
     use figure::outline;
     use layer::MaskingOverlay;
@@ -216,7 +217,7 @@ mod tests {
     }
 
     #[test]
-    fn outlines_by_their_counts() -> Result<(), Fail> {
+    fn ellipses_by_their_counts() -> Result<(), Fail> {
         let mut records = [blank(); 200];
         let wide = Window {
             left: -20,
@@ -231,6 +232,7 @@ mod tests {
         check(matches!(outline(&mut strip, (0, 0), 15, 1, Ink::Light), Ok(56)))?;
         check(matches!(outline(&mut strip, (0, 0), 0, 3, Ink::Light), Ok(7)))?;
         check(matches!(outline(&mut strip, (0, 0), 0, 0, Ink::Light), Ok(1)))?;
+        check(matches!(filled(&mut strip, (0, 0), 4, 4, Ink::Light), Ok(61)))?;
         let Err(axis) = outline(&mut strip, (0, 0), 4096, 1, Ink::Light) else {
             return Err(Fail::new("a semi-axis too long"));
         };
