@@ -1,6 +1,6 @@
 -- The reach of a row: how it is found, and that it says which dots of the row are filled.
 use mathlib.Core.Path.{_≡_, refl, sym, ap, subst, _∙_}
-use mathlib.Core.Bool.{Bool, true, false, cond, not, _&&_, _||_}
+use mathlib.Core.Bool.{true, false, not, _&&_}
 use mathlib.Core.List.{List, [], _∷_, _++_, append-nil}
 use mathlib.Core.Logic.{inl, inr}
 use Prim.Native.Nat.{ℕ, zero, suc, _+_, _-_, _*_, _≤_, _<_}
@@ -172,6 +172,3 @@ next-row c a b k r h i =
     ap (fillRows c a b (rowAt b k)) e
     ∙ ap (λ l. l ++ fillRows c a b (rowAt b k +ℤ pos 1) (2 * b + 1 - (k + 1))) (row-is c a b (rowAt b k) r (subst (λ m. IsReach a b m r) (height-is b k) i) ∙ ap (λ z. dotsFrom (rowDot (c .0) z r) 0 (2 * r + 1)) y)
     ∙ ap (λ z. dotsFrom (rowDot (c .0) (c .1 -ℤ pos b +ℤ pos k) r) 0 (2 * r + 1) ++ fillRows c a b z (2 * b + 1 - (k + 1))) d
-
-pub no-row : (c : Dot) (a b k : ℕ) → 2 * b + 1 ≤ k → fillRows c a b (rowAt b k) (2 * b + 1 - k) ≡ []
-no-row c a b k h = let e : 2 * b + 1 - k ≡ 0 = omega arith in ap (fillRows c a b (rowAt b k)) e

@@ -1,7 +1,6 @@
-use mathlib.Core.Path.{_≡_, subst}
+use mathlib.Core.Path.{subst}
 use mathlib.Core.List.{[], _∷_}
 use Prim.Native.Nat.{_+_, _-_, _*_, _<_}
-use lib.IntN.{pos, _+ℤ_, _-ℤ_}
 use mir.Syntax.{w32}
 use mir.Val.{SFits}
 use borrow.Author.Needs.{needs}
@@ -22,6 +21,7 @@ loop-k-again g c =
     let dot = rowDot (c .args .x) (c .args .y) (c .args .reach) in
     let n = 2 * c .args .reach + 1 in
     let k = c .loop-k .k in
+    let less : k < n = omega arith in
     let inv = simp toZ-ofZ at (c .loop-k .inv) in
-    simp toZ-ofZ (turn (g .V·Visitor .laws) _ _ _ (dot k ∷ []) (dotsFrom dot (k + 1) (n - (k + 1))) (dotsFrom dot k (n - k)) (dotsFrom dot 0 n) inv (next-dot dot k n (c .loop-k-test .taken))
+    simp toZ-ofZ (turn (g .V·Visitor .laws) _ _ _ (dot k ∷ []) (dotsFrom dot (k + 1) (n - (k + 1))) (dotsFrom dot k (n - k)) (dotsFrom dot 0 n) inv (next-dot dot k n less)
     (subst (λ x. g .V·Visitor .visits (c .loop-k .visitor) ((x, c .args .y) ∷ []) (c .visit .last .self)) placed visited))

@@ -1,5 +1,5 @@
-use mathlib.Core.Path.{_≡_, subst, ap, _∙_}
-use Prim.Native.Nat.{_+_, _-_, _*_, _<_, _≤_}
+use mathlib.Core.Path.{subst, ap, _∙_}
+use Prim.Native.Nat.{_+_, _-_, _*_, _<_}
 use lib.IntN.{pos, _+ℤ_, _-ℤ_}
 use mir.Syntax.{w32}
 use mir.Val.{SFits}
@@ -42,8 +42,9 @@ loop-k-again g c =
     let b = c .args .b in
     let k = c .loop-k .k in
     let r = c .reach-of-row-reach .result in
+    let less : k < 2 * b + 1 = omega arith in
     let reached = c .reach-of-row-reach .ensures in (
       seeks-next a b k r reached,
-      turn (g .V·Visitor .laws) _ _ _ (dotsFrom (rowDot (centre .0) (centre .1 -ℤ pos b +ℤ pos k) r) 0 (2 * r + 1)) (fillRows centre a b (rowAt b (k + 1)) (2 * b + 1 - (k + 1))) (fillRows centre a b (rowAt b k) (2 * b + 1 - k)) (filledDots centre a b) (c .loop-k .inv .1) (next-row centre a b k r (c .loop-k-test .taken) reached)
+      turn (g .V·Visitor .laws) _ _ _ (dotsFrom (rowDot (centre .0) (centre .1 -ℤ pos b +ℤ pos k) r) 0 (2 * r + 1)) (fillRows centre a b (rowAt b (k + 1)) (2 * b + 1 - (k + 1))) (fillRows centre a b (rowAt b k) (2 * b + 1 - k)) (filledDots centre a b) (c .loop-k .inv .1) (next-row centre a b k r less reached)
           (subst (λ y. g .V·Visitor .visits (c .loop-k .visitor) (dotsFrom (rowDot (centre .0) y r) 0 (2 * r + 1)) (c .visit-row .last .visitor)) placed visited),
     )
