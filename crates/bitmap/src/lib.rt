@@ -1,6 +1,8 @@
 // A plate that keeps its dots as bits of the caller's bytes, eight dots to a byte.
 // It promises the rules of every plate, and which bytes stand after any calls: spare bits and bytes past the last row never change.
 // Read on in specs/Bitmaps.antt and docs/PLATES.md.
+#![tactic(auto)]
+
 ghost use Rattle.std.specs.Prelude.{◌≡◌, ◌-◌, ◌<◌, ◌≤◌, [], length, pos, if◌then◌else◌};
 ghost use Rattle.plate.specs.Answers.{told, done, refused};
 ghost use Rattle.bitmap.specs.Bitmaps.{bitmap_number, row_bytes, side, sized, byte_of, bit_of, bit, inked_byte, bitmap_meaning, new_bitmap, Placed, BitmapStrikes, SparesStay};

@@ -1,6 +1,8 @@
 // A plate that holds the dot last touched apart from its cells, so that a question changes how it is kept.
 // It promises the rules of every plate and nothing else of its history: it shows that plates may be kept in any way, and serves tests.
 // Read on in specs/Holding.antt and docs/PLATES.md.
+#![tactic(auto)]
+
 ghost use Rattle.std.specs.Prelude.{◌≡◌, ℕ, false, [], if◌then◌else◌, Some, None};
 ghost use Rattle.plate.specs.World.{inside};
 ghost use Rattle.plate.specs.Plates.{meaning};

@@ -1,5 +1,7 @@
 // The raster ellipse about (0, 0): which pairs of its quarter x, y ≥ 0 are lighted, and the laws of its shape.
 // Read on in specs/Ellipses.antt.
+#![tactic(auto)]
+
 ghost use Rattle.std.specs.Prelude.{◌≡◌, ◌*◌, ◌≤◌};
 ghost use Rattle.ellipse.specs.Ellipses.{EllipseLaws, reach as reach_of, upright as upright_of, lighted as lighted_of};
 

@@ -1,6 +1,8 @@
 // Figures on any plate: lines, outlines of ellipses, circles, filled ellipses.
 // A call answers how many visible dots it struck, or refuses; the plate's history is then exactly these dots, in the figure's order, or none.
 // Read on in specs/Drawing.antt, specs/Lines.antt, specs/Outlines.antt and specs/Fills.antt, and in docs/FIGURES.md.
+#![tactic(auto)]
+
 ghost use Rattle.std.specs.Prelude.{◌≡◌, unsigned_abs};
 ghost use Rattle.plate.specs.Answers.{told};
 ghost use Rattle.figure.specs.Drawing.{figure_number, Distinct, figure_answer, figure_strikes};

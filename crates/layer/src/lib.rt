@@ -2,6 +2,8 @@
 // A layer over a plate is a plate: it keeps all the laws, its window, lit dots and shots are those below seen through it, and its history is the history of the places below.
 // `Over` has what all layers share; `Overlay` is what one layer does. How a pile maps dots is told by the crate `pile`.
 // Read on in specs/Layers.antt and specs/Views.antt, in `plate`'s specs/Piles.antt, and in docs/LAYERS.md.
+#![tactic(auto)]
+
 ghost use Rattle.std.specs.Prelude.{◌≡◌, true, ◌&&◌, [], ◌∷◌};
 ghost use Rattle.plate.specs.declared.Window.{Window};
 ghost use Rattle.plate.specs.World.{world, window_of};

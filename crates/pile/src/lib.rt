@@ -1,6 +1,8 @@
 // The way down a pile of masks, shifts and turns: where dots lie on its lowest plate, and how it turns what is drawn through it.
 // The answers are exact wherever the pile shows a dot at all, or has at most 65,000 layers; the laws of maps stand on `place_of`.
 // Read on in `plate`'s specs/Piles.antt and in docs/LAYERS.md.
+#![tactic(auto)]
+
 ghost use Rattle.std.specs.Prelude.{◌≡◌, ◌%◌, ◌≤◌, true, [], length, Some, ◌==◌, ◌≢◌};
 ghost use Rattle.plate.specs.World.{world, empty};
 ghost use Rattle.plate.specs.Plates.{place};

@@ -1,6 +1,8 @@
 // Tests masks, shifts and turns over a strip and over a bitmap against tables of windows and places, and prints a line for each family and plate.
 // The tables are written by hand from the rules in docs/LAYERS.md: no number in them comes from the code that is tested.
 // Where a row comes out otherwise, its line has fewer right than tried.
+#![tactic(auto)]
+
 mod away;
 mod bench;
 mod deep;

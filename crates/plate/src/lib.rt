@@ -1,6 +1,8 @@
 // Dots, windows, inks and refusals, and the trait of everything that can be asked and struck.
 // Every plate promises the rules of `Plate`: what it tells, what a strike changes, and the exact history of its strikes.
 // Read on in specs/World.antt, specs/Answers.antt and specs/Plates.antt, and in docs/PLATES.md.
+#![tactic(auto)]
+
 ghost use Rattle.std.specs.Prelude.{◌≡◌, ℕ, Bool, ◌&&◌, List, [], if◌then◌else◌, int_le};
 ghost use Rattle.plate.specs.declared.Window.{Window};
 ghost use Rattle.plate.specs.World.{Dot, within, world, inside, empty as no_dots, canonical as canonical_of, bounded, window_of, inked};

@@ -2,6 +2,8 @@
 // Each call writes one line at the start of the bytes that it is lent and answers the line's length, line feed included;
 // the bytes after it keep what they held, and a refused call alters none. A printed row strikes nothing.
 // Read on in specs/Lines.antt, which has every line byte for byte, and in docs/PRINTING.md.
+#![tactic(auto)]
+
 ghost use Rattle.std.specs.Prelude.{◌≡◌, ℕ, ◌+◌, ◌<◌, ◌≤◌, true, [], length, pos, ◌+ℤ◌, decimal, nat_le};
 ghost use Rattle.std.proofs.lemmas.List.Edits.{sets};
 ghost use Rattle.plate.specs.World.{inside};

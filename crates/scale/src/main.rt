@@ -1,5 +1,7 @@
 // Marks a linear scale, a base line and its ticks, through the public calls only: once on a bare bitmap, and once
 // through a mask, a quarter turn and a shift on another. Prints both plates side by side, and what was placed where.
+#![tactic(auto)]
+
 ghost use Rattle.std.specs.Prelude.{IfOk, OnOk};
 ghost use Rattle.scale.specs.Scale.{Spent};
 

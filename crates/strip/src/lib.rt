@@ -1,6 +1,8 @@
 // A plate that keeps every strike, in order, as a record in the caller's list.
 // It promises the rules of every plate, and which records stand in the list after any calls.
 // Read on in specs/Strips.antt and docs/PLATES.md.
+#![tactic(auto)]
+
 ghost use Rattle.std.specs.Prelude.{◌≡◌, ℕ, ◌-◌, min, false, []};
 ghost use Rattle.plate.specs.World.{inside, window_of};
 ghost use Rattle.plate.specs.Plates.{struck, meaning};

@@ -1,5 +1,7 @@
 // Examples of plates, layers, figures and printed lines together, as tests: each is proved to end safely, and then run.
 // What they show is told in docs/PLATES.md, docs/LAYERS.md, docs/FIGURES.md and docs/PRINTING.md.
+#![tactic(auto)]
+
 #[cfg(test)]
 mod tests {
     use bitmap::Bitmap;

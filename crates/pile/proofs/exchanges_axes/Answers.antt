@@ -5,5 +5,5 @@ use Rattle.pile.proofs.exchanges_axes.Goals as goal
 
 pub returns : goal.returns
 returns g c =
-    let value = c.exchanges.ensures ∙ ap exchanges c.facing-of.ensures.value in
+    let value = c.exchanges.ensures ∙ ap exchanges c.facing_of.ensures.value in
     record { value = value; odd = value ∙ (map-laws (g.P.Plate.layers c.args.plate.now)).odd; same = search rules }

@@ -18,6 +18,6 @@ returns g c =
     let one = c.carry.ensures in
     let two = c.carry-2.ensures in
     record {
-      value = line_is c.args.from c.args.to (laws.stays _ _ _ one.same) one.value c.in-ok-begin.was two.value c.in-ok-end.was;
+      value = line_is c.args.from c.args.to (laws.stays _ _ _ one.same) one.value c.in_ok-begin.was two.value c.in_ok-end.was;
       same = laws.join _ _ _ [] [] one.same two.same;
     }

@@ -12,5 +12,5 @@ loop-at-preserved g c =
     let fx = c.ranges.x in
     let fy = c.ranges.y in
     let i = c.loop-at.invariant in
-    let m = c.mark-at.ensures in
+    let m = c.mark_at.ensures in
     turn g.P.Plate.laws _ _ _ _ _ _ _ _ _ _ _ _ c.loop-at-test.true (simp to_z-of_z c.requires.dots) i.0 (to_z-of_z w32 _ (overflow-add-x g c)) i.1 m.same m.value i.2

@@ -3,7 +3,7 @@ use Rattle.bitmap.specs.BitmapLaws.{sized-Limits}
 use Rattle.bitmap.proofs.Bitmap.shown.Goals as goal
 
 pub last-requires : goal.last-requires
-last-requires c = omega (arith, sized-Limits _ _ _ (sym c.if-is-sized.ensures))
+last-requires c = omega (arith, sized-Limits _ _ _ (sym c.if-is_sized.ensures))
 
-pub last-requires-then-is-sized : goal.last-requires-then-is-sized
-last-requires-then-is-sized c = omega (arith, sized-Limits _ _ _ (sym c.if-is-sized.ensures))
+pub last-requires-then-is_sized : goal.last-requires-then-is_sized
+last-requires-then-is_sized c = omega (arith, sized-Limits _ _ _ (sym c.if-is_sized.ensures))

@@ -27,6 +27,6 @@ returns g c =
     let parts = and_parts (world (c.args.x, c.args.y)) (admits l (c.args.x, c.args.y)) opens in
     let place = (simp to_z-of_z at c.map-place.ensures) ∙ cond-true (handable_dot (step l (c.args.x, c.args.y))) (step l (c.args.x, c.args.y)) (c.args.x, c.args.y) (world-handable l (c.args.x, c.args.y) (g.L.Overlay.small c.args.self.now.layer) parts.0) in
     record {
-      value = ask_open l (g.P.Plate.window c.args.self.now.below) (g.P.Plate.lit c.args.self.now.below) (c.args.x, c.args.y) _ _ opens place c.ask-at.ensures.value;
-      same = (refl, c.ask-at.ensures.same);
+      value = ask_open l (g.P.Plate.window c.args.self.now.below) (g.P.Plate.lit c.args.self.now.below) (c.args.x, c.args.y) _ _ opens place c.ask_at.ensures.value;
+      same = (refl, c.ask_at.ensures.same);
     }

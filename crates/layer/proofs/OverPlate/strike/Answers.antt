@@ -29,6 +29,6 @@ returns g c =
     let parts = and_parts (world (c.args.x, c.args.y)) (admits l (c.args.x, c.args.y)) opens in
     let place = (simp to_z-of_z at c.map-place.ensures) ∙ cond-true (handable_dot (step l (c.args.x, c.args.y))) (step l (c.args.x, c.args.y)) (c.args.x, c.args.y) (world-handable l (c.args.x, c.args.y) (g.L.Overlay.small s.layer) parts.0) in
     record {
-      answer = strike_open l (g.P.Plate.window s.below) (g.P.Plate.shots s.below) (c.args.x, c.args.y) _ _ opens place c.strike-at.ensures.answer;
-      history = (refl, subst (λ zs. g.P.Plate.strikes s.below zs c.strike-at.new.plate) (accepted_open l (g.P.Plate.window s.below) (g.P.Plate.shots s.below) (c.args.x, c.args.y) _ c.args.ink opens place) c.strike-at.ensures.history);
+      answer = strike_open l (g.P.Plate.window s.below) (g.P.Plate.shots s.below) (c.args.x, c.args.y) _ _ opens place c.strike_at.ensures.answer;
+      history = (refl, subst (λ zs. g.P.Plate.strikes s.below zs c.strike_at.new.plate) (accepted_open l (g.P.Plate.window s.below) (g.P.Plate.shots s.below) (c.args.x, c.args.y) _ c.args.ink opens place) c.strike_at.ensures.history);
     }

@@ -7,6 +7,6 @@ pub returns : goal.returns
 returns c =
     let fa = c.ranges.a in
     let fb = c.ranges.b in
-    let r : SFits w32 c.saturating-add.result = search rules in
-    let sum = simp to_z-of_z at c.saturating-add.ensures in
+    let r : SFits w32 c.saturating_add.result = search rules in
+    let sum = simp to_z-of_z at c.saturating_add.ensures in
     λ h. to_z-of_z w32 _ r ∙ sum ∙ saturated_is (c.args.a +ℤ c.args.b) (handable_fits (c.args.a +ℤ c.args.b) h)

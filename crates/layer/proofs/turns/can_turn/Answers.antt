@@ -22,8 +22,8 @@ returns-in-Quarter c =
     let fy = c.ranges.y in
     let p : Dot = (c.args.x, c.args.y) in
     let x = sym (fits_handable c.args.x c.ranges.x) in
-    let r = c.can-negate.result in
-    let y = simp to_z-of_z at c.can-negate.ensures in
+    let r = c.can_negate.result in
+    let y = simp to_z-of_z at c.can_negate.ensures in
     elim c.in-Quarter.is [
       | inl e ↦ can_turn_is Quarter _ p r true r e y x (sym (and_true r))
       | inr e ↦ can_turn_is AcrossY _ p true r r e x y refl
@@ -34,8 +34,8 @@ returns-in-Back c =
     let fx = c.ranges.x in
     let p : Dot = (c.args.x, c.args.y) in
     let y = sym (fits_handable c.args.y c.ranges.y) in
-    let r = c.can-negate-in-Back.result in
-    let x = simp to_z-of_z at c.can-negate-in-Back.ensures in
+    let r = c.can_negate-in-Back.result in
+    let x = simp to_z-of_z at c.can_negate-in-Back.ensures in
     elim c.in-Back.is [
       | inl e ↦ can_turn_is Back _ p true r r e y x refl
       | inr e ↦ can_turn_is AcrossX _ p r true r e x y (sym (and_true r))

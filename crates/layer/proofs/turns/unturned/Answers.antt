@@ -14,10 +14,10 @@ returns-then-exchanges c =
     let second = simp to_z-of_z at c.flipped-second.ensures in
     λ framed.
     let k = Framed-Bounded c.args.w framed in
-    c.window-by.ensures
+    c.window_by.ensures
     ∙ unturned_swap c.args.facing c.args.w c.flipped-first.result c.flipped-second.result (sym c.if-exchanges.ensures)
-    (first k.left k.right ∙ ap (λ b. flipped b c.args.w.left c.args.w.right) c.negates-first.ensures)
-    (second k.top k.bottom ∙ ap (λ b. flipped b c.args.w.top c.args.w.bottom) c.negates-second.ensures)
+    (first k.left k.right ∙ ap (λ b. flipped b c.args.w.left c.args.w.right) c.negates_first.ensures)
+    (second k.top k.bottom ∙ ap (λ b. flipped b c.args.w.top c.args.w.bottom) c.negates_second.ensures)
 
 pub returns-else-exchanges : goal.returns-else-exchanges
 returns-else-exchanges c =
@@ -29,7 +29,7 @@ returns-else-exchanges c =
     let second = simp to_z-of_z at c.flipped-second.ensures in
     λ framed.
     let k = Framed-Bounded c.args.w framed in
-    c.window-by-else-exchanges.ensures
+    c.window_by-else-exchanges.ensures
     ∙ unturned_keep c.args.facing c.args.w c.flipped-first.result c.flipped-second.result (sym c.if-exchanges.ensures)
-    (first k.left k.right ∙ ap (λ b. flipped b c.args.w.left c.args.w.right) c.negates-first.ensures)
-    (second k.top k.bottom ∙ ap (λ b. flipped b c.args.w.top c.args.w.bottom) c.negates-second.ensures)
+    (first k.left k.right ∙ ap (λ b. flipped b c.args.w.left c.args.w.right) c.negates_first.ensures)
+    (second k.top k.bottom ∙ ap (λ b. flipped b c.args.w.top c.args.w.bottom) c.negates_second.ensures)

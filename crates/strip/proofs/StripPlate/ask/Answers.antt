@@ -13,7 +13,7 @@ returns-then-shows c =
     let fy = c.ranges.y in
     let s = c.args.self.now in
     let rs = s.records.now in
-    let lit = simp to_z-of_z at c.lit-by.ensures.value in
+    let lit = simp to_z-of_z at c.lit_by.ensures.value in
     let is = sym (simp to_z-of_z at c.shows.ensures) ∙ c.if-shows.true in
     let n = c.min-used.result in
     record {
@@ -21,7 +21,7 @@ returns-then-shows c =
       same = record {
         lent = refl;
         bounds = refl;
-        records = ap (λ zs. zs ++ drop (n - 0) rs) c.lit-by.ensures.same ∙ take-append-drop (n - 0) rs;
+        records = ap (λ zs. zs ++ drop (n - 0) rs) c.lit_by.ensures.same ∙ take-append-drop (n - 0) rs;
         used = omega arith;
         room = omega arith;
         visible = tt;
