@@ -118,7 +118,7 @@ layer_laws {window = window} {lit = lit} {shots = shots} {strikes = strikes} {la
   join = λ s t u xs ys p q. (q.0 ∙ p.0, subst (λ zs. strikes (below s) zs (below u)) (ap (λ l. map (down (layer s)) xs ++ map (down l) ys) p.0 ∙ sym (map-append (down (layer s)) xs ys)) (h.join (below s) (below t) (below u) (map (down (layer s)) xs) (map (down (layer t)) ys) p.1 q.1));
   after = λ s t xs p. subst (λ l. After xs (meaning (view (layer s) (window (below s))) (λ q. lit (below s) (step (layer s) q)) (shots (below s))) (meaning (view l (window (below t))) (λ q. lit (below t) (step l q)) (shots (below t)))) (sym p.0) (view_after (layer s) xs (window (below s)) (window (below t)) (lit (below s)) (lit (below t)) (shots (below s)) (shots (below t)) (h.after (below s) (below t) (map (down (layer s)) xs) p.1));
   framed = λ s. Framed-clipped (pulled (layer s) (window (below s)));
-  ground = λ s. h.ground (below s);
+  framed_below = λ s. h.framed_below (below s);
   sees = λ s. view-Seen (layer s) (layers (below s)) (floor (below s)) (window (below s)) (lit (below s)) (shots (below s)) (h.sees (below s));
   near = λ s. (small s, h.near (below s));
   stays = λ s t xs p. ap (λ l. l ∷ layers (below t)) p.0 ∙ ap (λ ls. layer s ∷ ls) (h.stays (below s) (below t) (map (down (layer s)) xs) p.1);

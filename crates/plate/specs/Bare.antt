@@ -41,7 +41,7 @@ bare_laws window lit shots strikes none join after framed = record {
   join = join;
   after = after;
   framed = framed;
-  ground = framed;
+  framed_below = framed;
   sees = λ s. record { window = λ p. refl; lit = λ p h. refl; shots = refl };
   near = λ s. tt;
   stays = λ s t xs h. refl;

@@ -127,7 +127,7 @@ pub record Laws {S : Type 0} (window : S → Window) (lit : S → Dot → Bool) 
   pub join : (s t u : S) (xs ys : List Strike) → strikes s xs t → strikes t ys u → strikes s (xs ++ ys) u
   pub after : (s t : S) (xs : List Strike) → strikes s xs t → After xs (meaning (window s) (lit s) (shots s)) (meaning (window t) (lit t) (shots t))
   pub framed : (s : S) → Framed (window s)
-  pub ground : (s : S) → Framed (floor s).window
+  pub framed_below : (s : S) → Framed (floor s).window
   pub sees : (s : S) → Seen (layers s) (floor s) (meaning (window s) (lit s) (shots s))
   pub near : (s : S) → Near (layers s)
   pub stays : (s t : S) (xs : List Strike) → strikes s xs t → layers t ≡ layers s

@@ -12,10 +12,10 @@ draw-requires g c =
     let fy : SFits w32 c.args.from.1 = search rules in
     let tx : SFits w32 c.args.to.0 = search rules in
     let ty : SFits w32 c.args.to.1 = search rules in
-    (sym (simp to_z-of_z at c.if-not-in-world.ensures), sym (simp to_z-of_z at c.if-not-in-world-2.ensures))
+    (sym (simp to_z-of_z at c.if-not-in_world.ensures), sym (simp to_z-of_z at c.if-not-in_world-2.ensures))
 
-pub returns-then-not-in-world : goal.returns-then-not-in-world
-returns-then-not-in-world g c = record { answer = search rules; history = search rules; once = line_once c.args.from c.args.to }
+pub returns-then-not-in_world : goal.returns-then-not-in_world
+returns-then-not-in_world g c = record { answer = search rules; history = search rules; once = line_once c.args.from c.args.to }
 
 pub returns : goal.returns
 returns g c =
@@ -23,7 +23,7 @@ returns g c =
     let fy : SFits w32 c.args.from.1 = search rules in
     let tx : SFits w32 c.args.to.0 = search rules in
     let ty : SFits w32 c.args.to.1 = search rules in
-    let none = no_cause c.args.from c.args.to (sym (simp to_z-of_z at c.if-not-in-world.ensures)) (sym (simp to_z-of_z at c.if-not-in-world-2.ensures)) in
+    let none = no_cause c.args.from c.args.to (sym (simp to_z-of_z at c.if-not-in_world.ensures)) (sym (simp to_z-of_z at c.if-not-in_world-2.ensures)) in
     let s = c.args.plate.now in
     let w = g.P.Plate.window s in
     let n = g.P.Plate.shots s in

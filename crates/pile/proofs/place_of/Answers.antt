@@ -10,7 +10,7 @@ returns g c =
     let value = c.carry.ensures.value in
     record {
       value = value;
-      exact = λ h o. value ∙ carry_true _ _ _ c.args.at (laws.sees plate) (laws.ground plate) (laws.framed plate) h o;
+      exact = λ h o. value ∙ carry_true _ _ _ c.args.at (laws.sees plate) (laws.framed_below plate) (laws.framed plate) h o;
       deep = λ h d. value ∙ carry_deep _ c.args.at (laws.near plate) h d;
       maps = map-laws (g.P.Plate.layers plate);
       same = search rules;

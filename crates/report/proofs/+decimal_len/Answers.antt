@@ -3,8 +3,8 @@ use Rattle.std.proofs.lemmas.Fmt.{length-decimal-le}
 use Rattle.report.proofs.Places.{length_one, length_more}
 use Rattle.report.proofs.+decimal_len.Goals as goal
 
-pub overflow-add-result : goal.overflow-add-result
-overflow-add-result t c = omega (arith, length-decimal-le 10 (c.args.n / 10) (omega arith) (omega arith) (omega arith))
+pub overflow_add-result : goal.overflow_add-result
+overflow_add-result t c = omega (arith, length-decimal-le 10 (c.args.n / 10) (omega arith) (omega arith) (omega arith))
 
 pub returns-then-n-lt10 : goal.returns-then-n-lt10
 returns-then-n-lt10 t c = sym (length_one c.args.n c.if-n-lt10.true)

@@ -6,7 +6,7 @@ use Rattle.report.proofs.write_line.Goals as goal
 pub put-at-requires : goal.put-at-requires
 put-at-requires c =
     let i = c.loop-piece.invariant in
-    let h = leb-true _ _ (sym c.if-not-all-fit.ensures) in
+    let h = leb-true _ _ (sym c.if-not-all_fit.ensures) in
     room_said _ _ _ _ _ c.loop-piece-test.true (omega arith)
 
 pub loop-piece-preserved : goal.loop-piece-preserved
@@ -19,6 +19,6 @@ loop-piece-preserved c =
 pub returns : goal.returns
 returns c =
     let i = c.loop-piece.invariant in
-    let t = sym c.if-not-all-fit.ensures in
+    let t = sym c.if-not-all_fit.ensures in
     let e = length_unsaid _ _ c.loop-piece-test.false in
     record { answer = whole_answer _ _ _ t (omega arith); bytes = sym (sets_unsaid _ _ _ _ c.loop-piece-test.false) ∙ i.1 ∙ whole_line _ _ t }

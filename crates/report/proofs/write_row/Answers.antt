@@ -11,12 +11,12 @@ returns-then-out-count g c =
     let d = row_short _ (g.P.Plate.lit c.args.plate.now) _ c.args.out.now _ k.0 k.1 c.if-out-count.true in
     record { answer = d.0; bytes = d.1; same = c.window-window.ensures.same }
 
-pub put-marks-requires : goal.put-marks-requires
-put-marks-requires g c =
+pub put_marks-requires : goal.put_marks-requires
+put_marks-requires g c =
     let f : SFits w32 c.window-window.result.left = search rules in
     let v = c.window-window.ensures in
     let fy = to_z-of_z w32 _ c.ranges.y in
-    let k = row_known _ _ _ _ _ _ v.value (to_z-of_z w32 _ f) fy c.if-not-contains.ensures c.row-len-count.ensures in
+    let k = row_known _ _ _ _ _ _ v.value (to_z-of_z w32 _ f) fy c.if-not-contains.ensures c.row_len-count.ensures in
     record { dots = row_asked g.P.Plate.laws _ _ _ _ _ _ v.same k.0 k.1 k.2 fy; room = omega arith }
 
 pub returns : goal.returns

@@ -3,11 +3,11 @@ use Rattle.std.proofs.lemmas.Int.{ints}
 use Rattle.plate.specs.Windows.{within_orders}
 use Rattle.figure.proofs.fills.place.Goals as goal
 
-pub overflow-sub-result : goal.overflow-sub-result
-overflow-sub-result c = let w = within_orders c.args.centre c.requires.0 in let n = c.requires.1 in omega (arith, ints)
+pub overflow_sub-result : goal.overflow_sub-result
+overflow_sub-result c = let w = within_orders c.args.centre c.requires.0 in let n = c.requires.1 in omega (arith, ints)
 
-pub overflow-add-result : goal.overflow-add-result
-overflow-add-result c =
+pub overflow_add-result : goal.overflow_add-result
+overflow_add-result c =
     let w = within_orders c.args.centre c.requires.0 in
     let n = c.requires.1 in
     let m = c.requires.2 in

@@ -3,14 +3,14 @@ use Rattle.ellipse.proofs.Laws.{width}
 use Rattle.figure.proofs.Reaches.{ended, goes_on}
 use Rattle.figure.proofs.fills.reach_outward.Goals as goal
 
-pub is-last-requires : goal.is-last-requires
-is-last-requires c =
+pub is_last-requires : goal.is_last-requires
+is_last-requires c =
     let i = c.loop-x.invariant in
     let w = width c.args.a c.args.b i.0 c.args.y i.1.lit in
     omega (arith, i.2, c.requires.0)
 
-pub overflow-add-x : goal.overflow-add-x
-overflow-add-x c =
+pub overflow_add-x : goal.overflow_add-x
+overflow_add-x c =
     let i = c.loop-x.invariant in
     let w = width c.args.a c.args.b i.0 c.args.y i.1.lit in
     omega (arith, i.2, c.requires.0)

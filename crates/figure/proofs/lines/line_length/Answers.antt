@@ -4,8 +4,8 @@ use Rattle.plate.specs.Windows.{world_parts}
 use Rattle.figure.proofs.Crossings.{gap_few}
 use Rattle.figure.proofs.lines.line_length.Goals as goal
 
-pub overflow-add-result : goal.overflow-add-result
-overflow-add-result c =
+pub overflow_add-result : goal.overflow_add-result
+overflow_add-result c =
     let fx : SFits w32 c.args.from.0 = search rules in
     let fy : SFits w32 c.args.from.1 = search rules in
     let tx : SFits w32 c.args.to.0 = search rules in
@@ -14,6 +14,6 @@ overflow-add-result c =
     let q = world_parts c.args.to c.requires.1 in
     let wide = gap_few c.args.from.0 c.args.to.0 p.0 q.0 in
     let tall = gap_few c.args.from.1 c.args.to.1 p.1 q.1 in
-    let x = simp to_z-of_z at c.abs-diff.ensures in
-    let y = simp to_z-of_z at c.abs-diff-2.ensures in
+    let x = simp to_z-of_z at c.abs_diff.ensures in
+    let y = simp to_z-of_z at c.abs_diff-2.ensures in
     omega arith

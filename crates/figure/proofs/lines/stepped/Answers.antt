@@ -4,11 +4,11 @@ use Rattle.plate.specs.Windows.{within_orders}
 use Rattle.figure.proofs.Crossings.{toward_up, toward-down}
 use Rattle.figure.proofs.lines.stepped.Goals as goal
 
-pub overflow-add-result : goal.overflow-add-result
-overflow-add-result c = let w = within_orders c.args.from c.requires.0 in let n = c.requires.1 in omega (arith, ints)
+pub overflow_add-result : goal.overflow_add-result
+overflow_add-result c = let w = within_orders c.args.from c.requires.0 in let n = c.requires.1 in omega (arith, ints)
 
-pub overflow-sub-result : goal.overflow-sub-result
-overflow-sub-result c = let w = within_orders c.args.from c.requires.0 in let n = c.requires.1 in omega (arith, ints)
+pub overflow_sub-result : goal.overflow_sub-result
+overflow_sub-result c = let w = within_orders c.args.from c.requires.0 in let n = c.requires.1 in omega (arith, ints)
 
 pub returns-then-from-to : goal.returns-then-from-to
 returns-then-from-to c =

@@ -9,15 +9,15 @@ loop-k-init g c = start g.V.Visitor.laws _ _ _ (all_dots c.args.from c.args.to)
 
 pub loop-k-preserved : goal.loop-k-preserved
 loop-k-preserved g c =
-    let fx : SFits w32 c.line-dot-x.result.0 = search rules in
-    let fy : SFits w32 c.line-dot-x.result.1 = search rules in
+    let fx : SFits w32 c.line_dot-x.result.0 = search rules in
+    let fy : SFits w32 c.line_dot-x.result.1 = search rules in
     let visited = simp to_z-of_z at c.visit.ensures in
     let dot = line_dot c.args.from c.args.to in
     let n = longer c.args.from c.args.to + 1 in
     let k = c.loop-k.k in
     let less : k < n = omega arith in
     turn g.V.Visitor.laws _ _ _ (dot k ∷ []) (dots_from dot (k + 1) (n - (k + 1))) (dots_from dot k (n - k)) (line_dots c.args.from c.args.to) c.loop-k.invariant (next_dot dot k n less)
-    (subst (λ p. g.V.Visitor.visits c.loop-k.visitor (p ∷ []) c.visit.new.self) c.line-dot-x.ensures visited)
+    (subst (λ p. g.V.Visitor.visits c.loop-k.visitor (p ∷ []) c.visit.new.self) c.line_dot-x.ensures visited)
 
 pub returns : goal.returns
 returns g c =

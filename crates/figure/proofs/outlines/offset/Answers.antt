@@ -4,11 +4,11 @@ use Rattle.std.proofs.lemmas.Bool.{cond-true, cond-false}
 use Rattle.plate.specs.Windows.{within_orders}
 use Rattle.figure.proofs.outlines.offset.Goals as goal
 
-pub overflow-sub-result : goal.overflow-sub-result
-overflow-sub-result c = let w = within_orders c.args.centre c.requires.0 in let n = c.requires.1 in omega (arith, ints)
+pub overflow_sub-result : goal.overflow_sub-result
+overflow_sub-result c = let w = within_orders c.args.centre c.requires.0 in let n = c.requires.1 in omega (arith, ints)
 
-pub overflow-add-result : goal.overflow-add-result
-overflow-add-result c = let w = within_orders c.args.centre c.requires.0 in let n = c.requires.1 in omega (arith, ints)
+pub overflow_add-result : goal.overflow_add-result
+overflow_add-result c = let w = within_orders c.args.centre c.requires.0 in let n = c.requires.1 in omega (arith, ints)
 
 pub returns-then-back : goal.returns-then-back
 returns-then-back c =

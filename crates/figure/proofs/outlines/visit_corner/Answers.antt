@@ -16,9 +16,9 @@ offset-requires-2 g c =
     let f : SFits w32 c.args.centre.1 = search rules in
     (ap within (to_z-of_z w32 _ f) ∙ (world_parts c.args.centre c.requires.0).1, c.requires.2)
 
-pub returns-then-not-is-fresh : goal.returns-then-not-is-fresh
-returns-then-not-is-fresh g c =
-    subst (λ ds. g.V.Visitor.visits c.args.visitor.now ds c.args.visitor.now) (sym (cond-false (fresh (c.args.x, c.args.y) c.args.sign) (corner c.args.centre (c.args.x, c.args.y) c.args.sign ∷ []) [] (sym c.if-not-is-fresh.ensures))) (g.V.Visitor.laws.none c.args.visitor.now)
+pub returns-then-not-is_fresh : goal.returns-then-not-is_fresh
+returns-then-not-is_fresh g c =
+    subst (λ ds. g.V.Visitor.visits c.args.visitor.now ds c.args.visitor.now) (sym (cond-false (fresh (c.args.x, c.args.y) c.args.sign) (corner c.args.centre (c.args.x, c.args.y) c.args.sign ∷ []) [] (sym c.if-not-is_fresh.ensures))) (g.V.Visitor.laws.none c.args.visitor.now)
 
 pub returns : goal.returns
 returns g c =
@@ -34,5 +34,5 @@ returns g c =
     let dy : c.offset-2.result ≡ (corner c.args.centre (c.args.x, c.args.y) c.args.sign).1 = y ∙ ap (λ b. cond b.1 (c.args.centre.1 -ℤ pos c.args.y) (c.args.centre.1 +ℤ pos c.args.y)) s in
     let at : ◌≡◌ {A = Dot} (c.offset.result, c.offset-2.result) (corner c.args.centre (c.args.x, c.args.y) c.args.sign) = ap (λ z. (z, c.offset-2.result)) dx ∙ ap (λ z. ((corner c.args.centre (c.args.x, c.args.y) c.args.sign).0, z)) dy in
     subst (λ ds. g.V.Visitor.visits c.args.visitor.now ds c.visit.new.self)
-    (ap (λ d. d ∷ []) at ∙ sym (cond-true (fresh (c.args.x, c.args.y) c.args.sign) (corner c.args.centre (c.args.x, c.args.y) c.args.sign ∷ []) [] (sym c.if-not-is-fresh.ensures)))
+    (ap (λ d. d ∷ []) at ∙ sym (cond-true (fresh (c.args.x, c.args.y) c.args.sign) (corner c.args.centre (c.args.x, c.args.y) c.args.sign ∷ []) [] (sym c.if-not-is_fresh.ensures)))
     visited

@@ -17,7 +17,7 @@ seek-preserved g c =
 
 pub loop-sign-preserved : goal.loop-sign-preserved
 loop-sign-preserved g c =
-    turn g.V.Visitor.laws _ _ _ (corner_dots c.args.centre (c.pairs.x, c.seek.y) c.loop-sign.sign) (corners_from c.args.centre (c.pairs.x, c.seek.y) (c.loop-sign.sign + 1) (4 - (c.loop-sign.sign + 1))) _ (corners_from c.args.centre (c.pairs.x, c.seek.y) 0 4) c.loop-sign.invariant (next_sign c.args.centre (c.pairs.x, c.seek.y) c.loop-sign.sign c.loop-sign-test.true) c.visit-corner.ensures
+    turn g.V.Visitor.laws _ _ _ (corner_dots c.args.centre (c.pairs.x, c.seek.y) c.loop-sign.sign) (corners_from c.args.centre (c.pairs.x, c.seek.y) (c.loop-sign.sign + 1) (4 - (c.loop-sign.sign + 1))) _ (corners_from c.args.centre (c.pairs.x, c.seek.y) 0 4) c.loop-sign.invariant (next_sign c.args.centre (c.pairs.x, c.seek.y) c.loop-sign.sign c.loop-sign-test.true) c.visit_corner.ensures
 
 pub pairs-preserved-then-lighted-2 : goal.pairs-preserved-then-lighted-2
 pairs-preserved-then-lighted-2 g c =

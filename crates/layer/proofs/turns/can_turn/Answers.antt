@@ -41,28 +41,28 @@ returns-in-Back c =
       | inr e ↦ can_turn_is AcrossX _ p r true r e x y (sym (and_true r))
     ]
 
-pub returns-then-can-negate : goal.returns-then-can-negate
-returns-then-can-negate c =
+pub returns-then-can_negate : goal.returns-then-can_negate
+returns-then-can_negate c =
     let fx = c.ranges.x in
     let fy = c.ranges.y in
     let p : Dot = (c.args.x, c.args.y) in
-    let a = c.can-negate-in-Half.result in
-    let r = c.can-negate-then-can-negate.result in
-    let x = simp to_z-of_z at c.can-negate-in-Half.ensures in
-    let y = simp to_z-of_z at c.can-negate-then-can-negate.ensures in
+    let a = c.can_negate-in-Half.result in
+    let r = c.can_negate-then-can_negate.result in
+    let x = simp to_z-of_z at c.can_negate-in-Half.ensures in
+    let y = simp to_z-of_z at c.can_negate-then-can_negate.ensures in
     elim c.in-Half.is [
-      | inl e ↦ can_turn_is Half _ p a r r e x y (ap (λ b. b && r) (sym c.if-can-negate.true))
-      | inr e ↦ can_turn_is Anti _ p r a r e y x (sym (and_true r) ∙ ap (λ b. r && b) (sym c.if-can-negate.true))
+      | inl e ↦ can_turn_is Half _ p a r r e x y (ap (λ b. b && r) (sym c.if-can_negate.true))
+      | inr e ↦ can_turn_is Anti _ p r a r e y x (sym (and_true r) ∙ ap (λ b. r && b) (sym c.if-can_negate.true))
     ]
 
-pub returns-else-can-negate : goal.returns-else-can-negate
-returns-else-can-negate c =
+pub returns-else-can_negate : goal.returns-else-can_negate
+returns-else-can_negate c =
     let fx = c.ranges.x in
     let p : Dot = (c.args.x, c.args.y) in
-    let r = c.can-negate-in-Half.result in
+    let r = c.can_negate-in-Half.result in
     let y = handable (neg_ℤ c.args.y) in
-    let x = simp to_z-of_z at c.can-negate-in-Half.ensures in
-    let f = c.if-can-negate.false in
+    let x = simp to_z-of_z at c.can_negate-in-Half.ensures in
+    let f = c.if-can_negate.false in
     elim c.in-Half.is [
       | inl e ↦ can_turn_is Half _ p r y r e x refl (f ∙ ap (λ b. b && y) (sym f))
       | inr e ↦ can_turn_is Anti _ p y r r e refl x (f ∙ sym (and_right y r f))

@@ -4,21 +4,21 @@ use Rattle.plate.specs.Piles.{handable}
 use Rattle.layer.proofs.Sums.{shift-reaches}
 use Rattle.layer.proofs.shifts.ShiftingOverlay.reaches.Goals as goal
 
-pub returns-then-can-add : goal.returns-then-can-add
-returns-then-can-add c =
+pub returns-then-can_add : goal.returns-then-can_add
+returns-then-can_add c =
     let fx : SFits w32 c.args.at.0 = search rules in
     let fy : SFits w32 c.args.at.1 = search rules in
     let da : SFits w32 c.held-dx.result.0 = search rules in
     let db : SFits w32 c.held-dx.result.1 = search rules in
-    let x = simp to_z-of_z at c.can-add.ensures in
-    let y = simp to_z-of_z at c.can-add-then-can-add.ensures in
+    let x = simp to_z-of_z at c.can_add.ensures in
+    let y = simp to_z-of_z at c.can_add-then-can_add.ensures in
     shift-reaches c.held-dx.result.0 c.held-dx.result.1 _ c.held-dx.ensures.layer c.args.at _
-    (y ∙ ap (λ b. b && handable (c.args.at.1 +ℤ c.held-dx.result.1)) (sym c.if-can-add.true ∙ x))
+    (y ∙ ap (λ b. b && handable (c.args.at.1 +ℤ c.held-dx.result.1)) (sym c.if-can_add.true ∙ x))
 
-pub returns-else-can-add : goal.returns-else-can-add
-returns-else-can-add c =
+pub returns-else-can_add : goal.returns-else-can_add
+returns-else-can_add c =
     let fx : SFits w32 c.args.at.0 = search rules in
     let da : SFits w32 c.held-dx.result.0 = search rules in
-    let x = simp to_z-of_z at c.can-add.ensures in
+    let x = simp to_z-of_z at c.can_add.ensures in
     shift-reaches c.held-dx.result.0 c.held-dx.result.1 _ c.held-dx.ensures.layer c.args.at _
-    (c.if-can-add.false ∙ ap (λ b. b && handable (c.args.at.1 +ℤ c.held-dx.result.1)) (sym c.if-can-add.false ∙ x))
+    (c.if-can_add.false ∙ ap (λ b. b && handable (c.args.at.1 +ℤ c.held-dx.result.1)) (sym c.if-can_add.false ∙ x))
