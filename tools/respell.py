@@ -10,6 +10,7 @@ import glob
 import re
 
 TABLE = """
+above-0 above_0
 above-div above_div
 abs-few abs_few
 abs-left abs_left
@@ -96,6 +97,7 @@ corner-pair corner_pair
 cornerDots corner_dots
 cornersFrom corners_from
 count-dots count_dots
+counter-laws counter_laws
 covered-not covered_not
 covered-to covered_to
 digit-back digit_back
@@ -117,6 +119,8 @@ figureStrikes figure_strikes
 fillRow fill_row
 fillRows fill_rows
 filled-few filled_few
+filled-not filled_not
+filled-to filled_to
 filledDots filled_dots
 filledPair filled_pair
 fits-handable fits_handable
@@ -131,10 +135,15 @@ framed-empty Framed-empty
 framed-frame Framed-frame
 framed-windowOf Framed-window_of
 gap-few gap_few
+go-down go_down
+go-end go_end
+go-side go_side
+ground framed_below
 handable-fits handable_fits
 handable-orders handable_orders
 handable-parts handable_parts
 handableDot handable_dot
+has-later has_later
 hasDots has_dots
 height-is height_is
 in-uncrossed In-uncrossed
@@ -146,6 +155,7 @@ inkedByte inked_byte
 inkedWith inked_with
 inside-orders inside_orders
 joinedTurn joined_turn
+kept-once kept_once
 laid-onto laid_onto
 laidWindow laid_window
 layer-laws layer_laws
@@ -170,8 +180,10 @@ litAfter-join lit_after-append
 litAt lit_at
 litBy lit_by
 litBy-more lit_by_more
+lowered-dots lowered_dots
 made-along made_along
 made-tall made_tall
+map-laws map_laws
 marks-more marks_more
 maskLayer mask_layer
 masked-decides Masked-Decides
@@ -186,10 +198,12 @@ no-cause no_cause
 no-cause-in no_cause_in
 no-dot no_dot
 noDots no_dots
+not-here not_here
 not-later not_later
 not-spare not_spare
 odd-more odd_more
 once-distinct once-Distinct
+once-few once_few
 once-sub once_sub
 one-dot one_dot
 oneToOne one_to_one
@@ -206,6 +220,7 @@ outline-once outline_once
 outline-pairs outline_pairs
 outlineDots outline_dots
 outside-none outside_none
+pair-few pair_few
 pairDots pair_dots
 pairs-distinct pairs-Distinct
 pairs-few pairs_few
@@ -241,6 +256,7 @@ row_written written-row_line
 rule-laws rule_laws
 same-lit same_lit
 same-orders same_orders
+same-shots same_shots
 saturated-is saturated_is
 seeks-first seeks_first
 seeks-inward seeks_inward
@@ -254,6 +270,9 @@ sets-unsaid sets_unsaid
 shape-few shape_few
 shapeDots shape_dots
 shift-near shift_near
+shift-place shift_place
+shift-reaches shift_reaches
+shift-view shift_view
 shiftLayer shift_layer
 short-answer short_answer
 short-line short_line
@@ -274,11 +293,14 @@ strike-closed strike_closed
 strike-open strike_open
 strikeAnswer strike_answer
 strikeNumber strike_number
+striker-laws striker_laws
 strip-after strip_after
 strip-join strip_join
 strip-laws strip_laws
 strip-none strip_none
 stripMeaning strip_meaning
+struck-all struck_all
+struck-one struck_one
 take-used take_used
 toward-up toward_up
 turn-few turn_few
@@ -307,6 +329,7 @@ visible-few visible_few
 whole-answer whole_answer
 whole-line whole_line
 window-is window_is
+window-kept window_kept
 windowBy window_by
 windowNumber window_number
 windowOf window_of
@@ -338,6 +361,8 @@ def main():
             texts[path] = file.read()
     word = re.compile(r"[^\s(){},.;`\"]+")
     seen = {w for text in texts.values() for w in word.findall(text)}
+    if "litAfter" not in seen:
+        raise SystemExit("respell: this tree is respelled already")
     taken = sorted(v for v in names.values() if v in seen and v not in names)
     changed = 0
     for path, text in texts.items():

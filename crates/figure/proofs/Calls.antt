@@ -47,11 +47,11 @@ line_few w p q f g =
 -- the pairs of a column, of some columns; the dots of pairs
 column_few : (p : ℕ → ℕ → Bool) (x k : ℕ) → length (column p x k) ≤ k
 column_few p x zero = omega arith
-column_few p x (suc k) = pair-few (p x k) (x, k) (column p x k) k (column_few p x k)
+column_few p x (suc k) = pair_few (p x k) (x, k) (column p x k) k (column_few p x k)
   where
-    pair-few : (b : Bool) (q : ℕ × ℕ) (ps : List (ℕ × ℕ)) (n : ℕ) → length ps ≤ n → length (cond b (q ∷ ps) ps) ≤ suc n
-    pair-few true q ps n h = omega arith
-    pair-few false q ps n h = omega arith
+    pair_few : (b : Bool) (q : ℕ × ℕ) (ps : List (ℕ × ℕ)) (n : ℕ) → length ps ≤ n → length (cond b (q ∷ ps) ps) ≤ suc n
+    pair_few true q ps n h = omega arith
+    pair_few false q ps n h = omega arith
 
 columns_few : (p : ℕ → ℕ → Bool) (b x n : ℕ) → length (columns p b x n) ≤ n * suc b
 columns_few p b x zero = omega arith
@@ -59,13 +59,13 @@ columns_few p b x (suc n) = let h = column_few p x (suc b) in let k = columns_fe
 
 pairs_few : (c : Dot) (ps : List (ℕ × ℕ)) → length (pair_dots c ps) ≤ 4 * length ps
 pairs_few c [] = omega arith
-pairs_few c (p ∷ ps) = let h = once-few [] (corners c p) in let k = pairs_few c ps in simp length-append (omega arith)
+pairs_few c (p ∷ ps) = let h = once_few [] (corners c p) in let k = pairs_few c ps in simp length-append (omega arith)
   where
-    once-few : (named ds : List Dot) → length (once named ds) ≤ length ds
-    once-few named [] = omega arith
-    once-few named (d ∷ ds) = elim (cases_Bool (has d named)) [
-      | inl t ↦ (let h = once-few named ds in simp t (omega arith))
-      | inr f ↦ (let h = once-few (d ∷ named) ds in simp f (omega arith))
+    once_few : (named ds : List Dot) → length (once named ds) ≤ length ds
+    once_few named [] = omega arith
+    once_few named (d ∷ ds) = elim (cases_Bool (has d named)) [
+      | inl t ↦ (let h = once_few named ds in simp t (omega arith))
+      | inr f ↦ (let h = once_few (d ∷ named) ds in simp f (omega arith))
     ]
 
 outline_few : (w : Window) (c : Dot) (a b : ℕ) → a ≤ 4095 → b ≤ 4095 → length (visible w (outline_dots c a b)) < 2 ^ 32
@@ -112,18 +112,18 @@ module _ {Q : Type 0} {window : Q → Window} {lit : Q → Dot → Bool} {shots 
     still : strikes s [] u
     still = h.join s t u [] [] st tu
 
-    same-shots : shots s ≡ n
-    same-shots = let a : shots s ≡ 0 + shots t = (h.after s t [] st).shots in omega arith
+    same_shots : shots s ≡ n
+    same_shots = let a : shots s ≡ 0 + shots t = (h.after s t [] st).shots in omega arith
 
     pub too_few : n < seen → Called s u cause dots ink (refused 22)
     too_few less =
-        let e = same-shots in
+        let e = same_shots in
         let l : leb (length (visible (window s) dots)) (shots s) ≡ false = lt-leb (length (visible (window s) dots)) (shots s) (omega arith) in
         subst (λ o. Called s u o dots ink (refused 22)) (sym none) (record { answer = simp l; history = simp l still })
 
-    pub struck-all : (v : Q) → seen ≤ n → strikes u (inked_with ink (take (shots u) (visible (window u) dots))) v → Called s v cause dots ink (done seen)
-    struck-all v enough uv =
-        let e = same-shots in
+    pub struck_all : (v : Q) → seen ≤ n → strikes u (inked_with ink (take (shots u) (visible (window u) dots))) v → Called s v cause dots ink (done seen)
+    struck_all v enough uv =
+        let e = same_shots in
         let b : shots t ≡ 0 + shots u = (h.after t u [] tu).shots in
         let w : window u ≡ window s = (h.after s u [] still).window in
         let l : leb (length (visible (window s) dots)) (shots s) ≡ true = le-leb (length (visible (window s) dots)) (shots s) (omega arith) in

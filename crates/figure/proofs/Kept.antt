@@ -26,8 +26,8 @@ module _ (c : Dot) (x y : ℕ) where
   abbrev se : Dot
   se = (c.0 +ℤ pos x, c.1 -ℤ pos y)
 
-  pub kept-once : once [] (corners c (x, y)) ≡ corners_from c (x, y) 0 4
-  kept-once = elim (cases_eq x 0) [
+  pub kept_once : once [] (corners c (x, y)) ≡ corners_from c (x, y) 0 4
+  kept_once = elim (cases_eq x 0) [
     | inl x0 ↦ elim (cases_eq y 0) [
       | inl y0 ↦ (
           let ex = eq-eqb x 0 x0 in
@@ -85,4 +85,4 @@ unfolding outline_dots
 outline_pairs c a b ps e = ap (pair_dots c) e
 
 pub next_pair : (c : Dot) (x y : ℕ) (ps rest : List (ℕ × ℕ)) → ps ≡ (x, y) ∷ rest → pair_dots c ps ≡ corners_from c (x, y) 0 4 ++ pair_dots c rest
-next_pair c x y ps rest e = ap (pair_dots c) e ∙ ap (λ ds. ds ++ pair_dots c rest) (kept-once c x y)
+next_pair c x y ps rest e = ap (pair_dots c) e ∙ ap (λ ds. ds ++ pair_dots c rest) (kept_once c x y)

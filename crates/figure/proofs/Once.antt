@@ -38,13 +38,13 @@ steps_apart p q k j h = elim (cases_Bool (same (line_dot p q k) (line_dot p q j)
 ]
 
 module _ (dot : ℕ → Dot) (apart : (k j : ℕ) → k < j → same (dot k) (dot j) ≡ false) where
-  has-later : (k j n : ℕ) → k < j → has (dot k) (dots_from dot j n) ≡ false
-  has-later k j zero h = refl
-  has-later k j (suc n) h = or_from (same (dot k) (dot j)) (has (dot k) (dots_from dot (suc j) n)) (apart k j h) (has-later k (suc j) n (omega arith))
+  has_later : (k j n : ℕ) → k < j → has (dot k) (dots_from dot j n) ≡ false
+  has_later k j zero h = refl
+  has_later k j (suc n) h = or_from (same (dot k) (dot j)) (has (dot k) (dots_from dot (suc j) n)) (apart k j h) (has_later k (suc j) n (omega arith))
 
   distinct_from : (k n : ℕ) → Distinct (dots_from dot k n)
   distinct_from k zero = tt
-  distinct_from k (suc n) = (has-later k (suc k) n (omega arith), distinct_from (suc k) n)
+  distinct_from k (suc n) = (has_later k (suc k) n (omega arith), distinct_from (suc k) n)
 
 pub line_once : (p q : Dot) → Distinct (line_dots p q)
 unfolding line_dots

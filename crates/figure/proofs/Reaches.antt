@@ -64,16 +64,16 @@ covered_not a b y x zero h = refl
 covered_not a b y x (suc n) h = or_from (lighted a b x y) (covered a b y (suc x) n) (h x (omega arith)) (covered_not a b y (suc x) n (λ u l. h u (omega arith)))
 
 module _ {a b y r : ℕ} (i : IsReach a b y r) where
-  filled-to : (x : ℕ) → x ≤ r → filled_pair a b x y ≡ true
+  filled_to : (x : ℕ) → x ≤ r → filled_pair a b x y ≡ true
   unfolding filled_pair
-  filled-to x h =
+  filled_to x h =
       let w = width a b r y i.lit in
       let d : r ≡ x + (r - x) = omega arith in
       covered_to a b y x (suc a - x) (r - x) (omega arith) (subst (λ z. lighted a b z y ≡ true) d i.lit)
 
-  filled-not : (x : ℕ) → r < x → filled_pair a b x y ≡ false
+  filled_not : (x : ℕ) → r < x → filled_pair a b x y ≡ false
   unfolding filled_pair
-  filled-not x h = covered_not a b y x (suc a - x) (λ u l. elim (cases_Bool (lighted a b u y)) [ inl t ↦ absurd (omega (arith, i.last u t)) | inr f ↦ f ])
+  filled_not x h = covered_not a b y x (suc a - x) (λ u l. elim (cases_Bool (lighted a b u y)) [ inl t ↦ absurd (omega (arith, i.last u t)) | inr f ↦ f ])
 
 abs_left : (z : ℤ) (n : ℕ) → (z +ℤ pos n) ≤ℤ negsuc 0 → n < nat_abs z
 abs_left (pos k) n h = omega (arith, ints)
@@ -96,7 +96,7 @@ module _ (c : Dot) (a b : ℕ) (dy : ℤ) (r : ℕ) (i : IsReach a b (nat_abs dy
   skips (suc m) n dx h =
       let e : suc m + n ≡ suc (m + n) = omega arith in
       let o : dx +ℤ pos 0 ≡ dx = omega (arith, ints) in
-      let out : filled_pair a b (nat_abs dx) (nat_abs dy) ≡ false = filled-not i (nat_abs dx) (subst (λ z. r < nat_abs z) o (h 0 (omega arith))) in
+      let out : filled_pair a b (nat_abs dx) (nat_abs dy) ≡ false = filled_not i (nat_abs dx) (subst (λ z. r < nat_abs z) o (h 0 (omega arith))) in
       let d : dx +ℤ pos 1 +ℤ pos m ≡ dx +ℤ pos (suc m) = omega (arith, ints) in
       ap (Row dx) e
       ∙ cond-false (filled_pair a b (nat_abs dx) (nat_abs dy)) ((c.0 +ℤ dx, c.1 +ℤ dy) ∷ Row (dx +ℤ pos 1) (m + n)) (Row (dx +ℤ pos 1) (m + n)) out
@@ -114,7 +114,7 @@ module _ (c : Dot) (a b : ℕ) (dy : ℤ) (r : ℕ) (i : IsReach a b (nat_abs dy
       ap (Row dx) f ∙ ap (λ z. Row z n) d
   takes (suc m) n k dx e h =
       let f : suc m + n ≡ suc (m + n) = omega arith in
-      let taken : filled_pair a b (nat_abs dx) (nat_abs dy) ≡ true = filled-to i (nat_abs dx) (abs_few dx r (omega (arith, ints)) (omega (arith, ints))) in
+      let taken : filled_pair a b (nat_abs dx) (nat_abs dy) ≡ true = filled_to i (nat_abs dx) (abs_few dx r (omega (arith, ints)) (omega (arith, ints))) in
       let d : dx +ℤ pos 1 +ℤ pos m ≡ dx +ℤ pos (suc m) = omega (arith, ints) in
       let x : c.0 +ℤ dx ≡ c.0 -ℤ pos r +ℤ pos k = omega (arith, ints) in
       ap (Row dx) f

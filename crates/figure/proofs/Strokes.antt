@@ -33,8 +33,8 @@ module _ {Q : Type 0} {window : Q → Window} {lit : Q → Dot → Bool} {shots 
   Reached s p ink t = strikes s (inked_with ink (take (shots s) (visible (window s) (p ∷ [])))) t
 
   -- a plate that was asked and then struck
-  pub struck-one : (s t u : Q) (p : Dot) (ink : Ink) → strikes s [] t → strikes t (accepted (window t) (shots t) (p, ink)) u → Reached s p ink u
-  struck-one s t u p ink a b =
+  pub struck_one : (s t u : Q) (p : Dot) (ink : Ink) → strikes s [] t → strikes t (accepted (window t) (shots t) (p, ink)) u → Reached s p ink u
+  struck_one s t u p ink a b =
       let k = h.after s t [] a in
       let n : shots s ≡ 0 + shots t = k.shots in
       let m : shots t ≡ shots s = omega arith in

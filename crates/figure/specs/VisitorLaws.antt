@@ -1,7 +1,7 @@
 -- Proofs: visitors of a plate keep the laws of visitors. Nothing here needs to be believed.
 use Rattle.std.specs.Prelude.{◌≡◌, ℕ, zero, suc, ◌+◌, ◌-◌, ◌^◌, ◌<◌, ◌≤◌, min, Bool, true, false, cond, List, [], ◌∷◌, ◌++◌, map, length, take, drop, refl}
 use Rattle.std.proofs.Common.{sym, ap, subst, ◌∙◌, arith, length-append, length-take}
-use Rattle.std.specs.Borrow.{Bor}
+use Rattle.std.specs.Borrow.{MutBor}
 use Rattle.std.proofs.lemmas.List.{map-append, length-map}
 use Rattle.plate.specs.declared.Ink.{Ink}
 use Rattle.plate.specs.declared.Window.{Window}
@@ -28,9 +28,9 @@ take-append (suc n) (u ∷ us) vs = ap (λ l. u ∷ l) (take-append n us vs) ∙
 left_over : (n k len : ℕ) → n ≡ min n len + k → n - len ≡ k
 left_over n k len e = omega arith
 
-module _ {S Q : Type 0} {window : Q → Window} {lit : Q → Dot → Bool} {shots : Q → ℕ} {strikes : Q → List Strike → Q → Type 0} {layers : Q → List Layer} {floor : Q → Meaning} (plate : S → Bor Q) (h : Laws window lit shots strikes layers floor) where
-  pub counter-laws : (seen : S → ℕ) → VisitLaws {S = S} (λ s ps t. Counts window strikes (plate s) (plate t) (seen s) (seen t) ps)
-  counter-laws seen = record {
+module _ {S Q : Type 0} {window : Q → Window} {lit : Q → Dot → Bool} {shots : Q → ℕ} {strikes : Q → List Strike → Q → Type 0} {layers : Q → List Layer} {floor : Q → Meaning} (plate : S → MutBor Q) (h : Laws window lit shots strikes layers floor) where
+  pub counter_laws : (seen : S → ℕ) → VisitLaws {S = S} (λ s ps t. Counts window strikes (plate s) (plate t) (seen s) (seen t) ps)
+  counter_laws seen = record {
     none = λ s. record { lent = refl; same = h.none (plate s).now; seen = λ _. omega arith };
     join = λ s t u ps qs a b.
         let w = (h.after (plate s).now (plate t).now [] a.same).window in
@@ -46,8 +46,8 @@ module _ {S Q : Type 0} {window : Q → Window} {lit : Q → Dot → Bool} {shot
         };
   }
 
-  pub striker-laws : (ink : S → Ink) → VisitLaws {S = S} (λ s ps t. Inks window shots strikes (plate s) (plate t) (ink s) (ink t) ps)
-  striker-laws ink = record {
+  pub striker_laws : (ink : S → Ink) → VisitLaws {S = S} (λ s ps t. Inks window shots strikes (plate s) (plate t) (ink s) (ink t) ps)
+  striker_laws ink = record {
     none = λ s. record { lent = refl; held = refl; struck = subst (λ zs. strikes (plate s).now (inked_with (ink s) zs) (plate s).now) (sym (take_none (shots (plate s).now))) (h.none (plate s).now) };
     join = λ s t u ps qs a b.
         let before = (plate s).now in

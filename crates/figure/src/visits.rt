@@ -2,7 +2,7 @@
 ghost use Rattle.std.specs.Prelude.{List, [], ◌∷◌};
 ghost use Rattle.plate.specs.World.{Dot};
 ghost use Rattle.figure.specs.Visits.{VisitLaws, Counts, Inks};
-ghost use Rattle.figure.specs.VisitorLaws.{counter-laws, striker-laws};
+ghost use Rattle.figure.specs.VisitorLaws.{counter_laws, striker_laws};
 
 use plate::{Ink, Plate};
 
@@ -26,7 +26,7 @@ pub(crate) struct Counter<'a, P> {
 impl<P: Plate> Visitor for Counter<'_, P> {
     ghost visits = { λ s ps t. Counts P.Plate.window P.Plate.strikes s.plate t.plate s.seen t.seen ps };
 
-    ghost laws = { counter-laws (λ s. s.plate) P.Plate.laws (λ s. s.seen) };
+    ghost laws = { counter_laws (λ s. s.plate) P.Plate.laws (λ s. s.seen) };
 
     fn visit(&mut self, x: i32, y: i32) {
         let shown = self.plate.ask(x, y).is_some();
@@ -46,7 +46,7 @@ pub(crate) struct Striker<'a, P> {
 impl<P: Plate> Visitor for Striker<'_, P> {
     ghost visits = { λ s ps t. Inks P.Plate.window P.Plate.shots P.Plate.strikes s.plate t.plate s.ink t.ink ps };
 
-    ghost laws = { striker-laws (λ s. s.plate) P.Plate.laws (λ s. s.ink) };
+    ghost laws = { striker_laws (λ s. s.plate) P.Plate.laws (λ s. s.ink) };
 
     fn visit(&mut self, x: i32, y: i32) {
         if self.plate.ask(x, y).is_some() {

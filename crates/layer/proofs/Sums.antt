@@ -75,16 +75,16 @@ within_negates z t = let w = within_orders z t in fits_handable (neg_ℤ z) (ome
 
 -- a shift by the numbers a and b
 module _ (a b : ℤ) (l : Layer) (is : shift a b ≡ l) where
-  pub shift-place : (p : Dot) (x y : ℤ) → (handable (p.0 +ℤ a) ≡ true → x ≡ p.0 +ℤ a) → (handable (p.1 +ℤ b) ≡ true → y ≡ p.1 +ℤ b) → handable_dot (step l p) ≡ true → ◌≡◌ {A = Dot} (x, y) (step l p)
-  shift-place p x y ex ey = subst (λ k. handable_dot (step k p) ≡ true → ◌≡◌ {A = Dot} (x, y) (step k p)) is (λ h. let t = handable_parts (p.0 +ℤ a, p.1 +ℤ b) h in ap (λ z. (z, y)) (ex t.0) ∙ ap (λ z. (p.0 +ℤ a, z)) (ey t.1))
+  pub shift_place : (p : Dot) (x y : ℤ) → (handable (p.0 +ℤ a) ≡ true → x ≡ p.0 +ℤ a) → (handable (p.1 +ℤ b) ≡ true → y ≡ p.1 +ℤ b) → handable_dot (step l p) ≡ true → ◌≡◌ {A = Dot} (x, y) (step l p)
+  shift_place p x y ex ey = subst (λ k. handable_dot (step k p) ≡ true → ◌≡◌ {A = Dot} (x, y) (step k p)) is (λ h. let t = handable_parts (p.0 +ℤ a, p.1 +ℤ b) h in ap (λ z. (z, y)) (ex t.0) ∙ ap (λ z. (p.0 +ℤ a, z)) (ey t.1))
 
-  pub shift-reaches : (p : Dot) (r : Bool) → r ≡ (handable (p.0 +ℤ a) && handable (p.1 +ℤ b)) → r ≡ handable_dot (step l p)
+  pub shift_reaches : (p : Dot) (r : Bool) → r ≡ (handable (p.0 +ℤ a) && handable (p.1 +ℤ b)) → r ≡ handable_dot (step l p)
   unfolding handable_dot
-  shift-reaches p r e = subst (λ k. r ≡ handable_dot (step k p)) is e
+  shift_reaches p r e = subst (λ k. r ≡ handable_dot (step k p)) is e
 
   -- the window above, by the opposite numbers
-  pub shift-view : (w : Window) → world (a, b) ≡ true → (back up left top right bottom : ℤ) → (handable (neg_ℤ a) ≡ true → back ≡ neg_ℤ a) → (handable (neg_ℤ b) ≡ true → up ≡ neg_ℤ b) → (handable (w.left +ℤ back) ≡ true → left ≡ w.left +ℤ back) → (handable (w.top +ℤ up) ≡ true → top ≡ w.top +ℤ up) → (handable (w.right +ℤ back) ≡ true → right ≡ w.right +ℤ back) → (handable (w.bottom +ℤ up) ≡ true → bottom ≡ w.bottom +ℤ up) → Framed w → clipped (record { left = left; top = top; right = right; bottom = bottom }) ≡ view l w
-  shift-view w small back up left top right bottom eback eup el et er eb f =
+  pub shift_view : (w : Window) → world (a, b) ≡ true → (back up left top right bottom : ℤ) → (handable (neg_ℤ a) ≡ true → back ≡ neg_ℤ a) → (handable (neg_ℤ b) ≡ true → up ≡ neg_ℤ b) → (handable (w.left +ℤ back) ≡ true → left ≡ w.left +ℤ back) → (handable (w.top +ℤ up) ≡ true → top ≡ w.top +ℤ up) → (handable (w.right +ℤ back) ≡ true → right ≡ w.right +ℤ back) → (handable (w.bottom +ℤ up) ≡ true → bottom ≡ w.bottom +ℤ up) → Framed w → clipped (record { left = left; top = top; right = right; bottom = bottom }) ≡ view l w
+  shift_view w small back up left top right bottom eback eup el et er eb f =
       let k = Framed-Bounded w f in
       let s = world_parts (a, b) small in
       let m = eback (within_negates a s.0) in

@@ -9,7 +9,7 @@ use Rattle.plate.specs.Plates.{Layer, mask, shift, turn, step, place, admits, sh
 use Rattle.plate.specs.Piles.{handable, handable_dot, carried, has_dots, apart}
 use Rattle.plate.specs.Windows.{le_true, world_orders, orders_inside}
 use Rattle.pile.specs.Carried.{pair_of, carried_line}
-use Rattle.pile.proofs.Maps.{origin, turned-origin, map-laws}
+use Rattle.pile.proofs.Maps.{origin, turned-origin, map_laws}
 
 handable_orders : (z : ℤ) → negsuc 2147483647 ≤ℤ z → z ≤ℤ pos 2147483647 → handable z ≡ true
 unfolding handable
@@ -26,7 +26,7 @@ carried_on : (l : Layer) (ls : List Layer) (p : Dot) → handable_dot (step l p)
 carried_on l ls p h e = cond-true (handable_dot (step l p)) (carried ls (step l p)) None h ∙ e
 
 step-apart : (l : Layer) (p q : Dot) → apart (step l p) (step l q) ≡ apart p q
-step-apart l = (map-laws (l ∷ [])).distances
+step-apart l = (map_laws (l ∷ [])).distances
 
 -- beside the way of a dot that is shown
 shows-world : (ls : List Layer) (w : Window) (q : Dot) → Framed w → shows ls w q ≡ true → world q ≡ true

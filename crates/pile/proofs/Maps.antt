@@ -259,34 +259,34 @@ module _ (ls : List Layer) where
   place-laid : (p : Dot) → place ls p ≡ laid across first second by p
   place-laid p = place_turns ls p ∙ ap (λ q. moved q by) (turned_parts (facing_of ls) p)
 
-  lowered-dots : (w : Window) → has_dots w ≡ true → lowered ls w ≡ laid_window across first second by w
+  lowered_dots : (w : Window) → has_dots w ≡ true → lowered ls w ≡ laid_window across first second by w
   unfolding lowered
-  lowered-dots w h = cond-true (has_dots w) (spanned (place ls (w.left, w.top)) (place ls (w.right, w.bottom))) empty h ∙ (λ i. spanned (place-laid (w.left, w.top) i) (place-laid (w.right, w.bottom) i))
+  lowered_dots w h = cond-true (has_dots w) (spanned (place ls (w.left, w.top)) (place ls (w.right, w.bottom))) empty h ∙ (λ i. spanned (place-laid (w.left, w.top) i) (place-laid (w.right, w.bottom) i))
 
   lowered_none : (w : Window) → has_dots w ≡ false → lowered ls w ≡ empty
   unfolding lowered
   lowered_none w f = cond-false (has_dots w) (spanned (place ls (w.left, w.top)) (place ls (w.right, w.bottom))) empty f
 
-  window-kept : (w : Window) (p : Dot) → inside (lowered ls w) (place ls p) ≡ inside w p
-  window-kept w p = elim (cases_Bool (has_dots w)) [
-    | inl t ↦ (λ i. inside (lowered-dots w t i) (place-laid p i)) ∙ laid-inside across first second by w p t
+  window_kept : (w : Window) (p : Dot) → inside (lowered ls w) (place ls p) ≡ inside w p
+  window_kept w p = elim (cases_Bool (has_dots w)) [
+    | inl t ↦ (λ i. inside (lowered_dots w t i) (place-laid p i)) ∙ laid-inside across first second by w p t
     | inr f ↦ ap (λ v. inside v (place ls p)) (lowered_none w f) ∙ inside-empty (place ls p) ∙ sym (outside_none w p f)
   ]
 
   count_kept : (w : Window) → dot_count (lowered ls w) ≡ dot_count w
   count_kept w = elim (cases_Bool (has_dots w)) [
-    | inl t ↦ ap dot_count (lowered-dots w t) ∙ count_dots (laid_window across first second by w) (spanned_dots (laid across first second by (w.left, w.top)) (laid across first second by (w.right, w.bottom))) ∙ laid-sides across first second by w ∙ sym (count_dots w t)
+    | inl t ↦ ap dot_count (lowered_dots w t) ∙ count_dots (laid_window across first second by w) (spanned_dots (laid across first second by (w.left, w.top)) (laid across first second by (w.right, w.bottom))) ∙ laid-sides across first second by w ∙ sym (count_dots w t)
     | inr f ↦ ap dot_count (lowered_none w f) ∙ count_none empty refl ∙ sym (count_none w f)
   ]
 
-  pub map-laws : MapLaws ls
-  map-laws = record {
+  pub map_laws : MapLaws ls
+  map_laws = record {
     one_to_one = λ p q h. laid_one across first second by p q (sym (place-laid p) ∙ h ∙ place-laid q);
     onto = λ q. (raised across first second by q, place-laid (raised across first second by q) ∙ laid_onto across first second by q);
     turn_then_shift = place_turns ls;
     distances = λ p q. (λ i. apart (place-laid p i) (place-laid q i)) ∙ laid-apart across first second by p q;
     odd = exchanges_odd ls;
-    window = window-kept;
+    window = window_kept;
     as_many = count_kept;
     none = lowered_none empty refl;
   }

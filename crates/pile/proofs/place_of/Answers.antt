@@ -1,5 +1,5 @@
 use Rattle.std.proofs.Common.{◌∙◌, rules}
-use Rattle.pile.proofs.Maps.{map-laws}
+use Rattle.pile.proofs.Maps.{map_laws}
 use Rattle.pile.proofs.Carrying.{carry_true, carry_deep}
 use Rattle.pile.proofs.place_of.Goals as goal
 
@@ -12,6 +12,6 @@ returns g c =
       value = value;
       exact = λ h o. value ∙ carry_true _ _ _ c.args.at (laws.sees plate) (laws.framed_below plate) (laws.framed plate) h o;
       deep = λ h d. value ∙ carry_deep _ c.args.at (laws.near plate) h d;
-      maps = map-laws (g.P.Plate.layers plate);
+      maps = map_laws (g.P.Plate.layers plate);
       same = search rules;
     }

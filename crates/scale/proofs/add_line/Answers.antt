@@ -5,6 +5,6 @@ use Rattle.scale.proofs.add_line.Goals as goal
 
 pub returns : goal.returns
 returns g c =
-    let told = c.in-ok-dots.ensures in
-    let total = call_total g.P.Plate.laws _ _ _ _ _ (done c.in-ok-dots.dots) told.answer told.history in
+    let told = c.in_ok-dots.ensures in
+    let total = call_total g.P.Plate.laws _ _ _ _ _ (done c.in_ok-dots.dots) told.answer told.history in
     λ few. omega arith

@@ -1,5 +1,5 @@
 use Rattle.std.proofs.Common.{◌+◌, ◌-◌, ◌<◌, ◌≤◌, [], ◌∷◌, sym, refl, ap, ◌∙◌, subst, arith}
-use Rattle.ellipse.proofs.Places.{place_start, coming_start, coming, above-0, go_on, go-down, go-side, go-end}
+use Rattle.ellipse.proofs.Places.{place_start, coming_start, coming, above_0, go_on, go_down, go_side, go_end}
 use Rattle.figure.specs.Corners.{corner_dots, corners_from}
 use Rattle.figure.specs.Outlines.{outline_dots}
 use Rattle.figure.proofs.Kept.{pair_dots, outline_pairs, next_pair, next_sign, no_sign}
@@ -21,7 +21,7 @@ loop-sign-preserved g c =
 
 pub pairs-preserved-then-lighted-2 : goal.pairs-preserved-then-lighted-2
 pairs-preserved-then-lighted-2 g c =
-    let s = go-down c.seek.invariant.0 (sym c.if-lighted.ensures) c.if-y-gt0.true (sym c.if-lighted-2.ensures) in
+    let s = go_down c.seek.invariant.0 (sym c.if-lighted.ensures) c.if-y-gt0.true (sym c.if-lighted-2.ensures) in
     let signs = finish g.V.Visitor.laws _ _ _ _ c.loop-sign.invariant (no_sign c.args.centre (c.pairs.x, c.seek.y) c.loop-sign.sign c.loop-sign-test.false) in (
       s.0,
       turn g.V.Visitor.laws _ _ _ (corners_from c.args.centre (c.pairs.x, c.seek.y) 0 4) (pair_dots c.args.centre (coming c.args.a c.args.b c.pairs.x (c.seek.y - 1))) _ _ c.pairs.invariant.1 (next_pair c.args.centre c.pairs.x c.seek.y _ _ (c.seek.invariant.1 ∙ s.1)) signs,
@@ -29,7 +29,7 @@ pairs-preserved-then-lighted-2 g c =
 
 pub pairs-preserved : goal.pairs-preserved
 pairs-preserved g c =
-    let s = go-side c.seek.invariant.0 (sym c.if-lighted.ensures)
+    let s = go_side c.seek.invariant.0 (sym c.if-lighted.ensures)
     (λ p. elim c.else-y-gt0.branch [ else-y-gt0-via-then-y-gt0+else-lighted-2 w ↦ sym w.if-lighted-2.ensures | else-y-gt0-via-else-y-gt0 w ↦ absurd (omega (arith, w.if-y-gt0.false)) ])
     c.if-x-a.true in
     let signs = finish g.V.Visitor.laws _ _ _ _ c.loop-sign.invariant (no_sign c.args.centre (c.pairs.x, c.seek.y) c.loop-sign.sign c.loop-sign-test.false) in (
@@ -39,7 +39,7 @@ pairs-preserved g c =
 
 pub returns : goal.returns
 returns g c =
-    let s = go-end c.seek.invariant.0 (sym c.if-lighted.ensures)
+    let s = go_end c.seek.invariant.0 (sym c.if-lighted.ensures)
     (λ p. elim c.else-y-gt0.branch [ else-y-gt0-via-then-y-gt0+else-lighted-2 w ↦ sym w.if-lighted-2.ensures | else-y-gt0-via-else-y-gt0 w ↦ absurd (omega (arith, w.if-y-gt0.false)) ])
     c.if-x-a.false in
     let signs = finish g.V.Visitor.laws _ _ _ _ c.loop-sign.invariant (no_sign c.args.centre (c.pairs.x, c.seek.y) c.loop-sign.sign c.loop-sign-test.false) in

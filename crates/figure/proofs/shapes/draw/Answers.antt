@@ -1,5 +1,5 @@
 use Rattle.std.proofs.Common.{refl}
-use Rattle.figure.proofs.Calls.{too_few, struck-all}
+use Rattle.figure.proofs.Calls.{too_few, struck_all}
 use Rattle.figure.proofs.shapes.draw.Goals as goal
 
 pub returns-then-seen-shots : goal.returns-then-seen-shots
@@ -9,5 +9,5 @@ returns-then-seen-shots g c =
 
 pub returns : goal.returns
 returns g c =
-    let called = struck-all g.P.Plate.laws _ _ _ _ _ c.args.ink _ _ refl c.count-seen.ensures.same c.shots.ensures.same c.count-seen.ensures.value c.shots.ensures.value _ c.if-seen-shots.false c.strike.ensures in
+    let called = struck_all g.P.Plate.laws _ _ _ _ _ c.args.ink _ _ refl c.count-seen.ensures.same c.shots.ensures.same c.count-seen.ensures.value c.shots.ensures.value _ c.if-seen-shots.false c.strike.ensures in
     record { answer = called.answer; history = called.history }

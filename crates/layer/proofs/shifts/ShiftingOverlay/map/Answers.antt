@@ -4,7 +4,7 @@ use Rattle.std.proofs.lemmas.Bool.{cond-true}
 use Rattle.plate.specs.Plates.{step}
 use Rattle.plate.specs.Piles.{handable_dot}
 use Rattle.layer.specs.Layers.{shift_layer}
-use Rattle.layer.proofs.Sums.{shift-place}
+use Rattle.layer.proofs.Sums.{shift_place}
 use Rattle.layer.proofs.shifts.ShiftingOverlay.map.Goals as goal
 
 pub returns : goal.returns
@@ -19,5 +19,5 @@ returns c =
     let y = simp to_z-of_z at c.added-2.ensures in
     let l = shift_layer c.args.self.now in
     let reached = sym c.if-not-reaches.ensures in
-    shift-place c.held-dx.result.0 c.held-dx.result.1 l c.held-dx.ensures.layer c.args.at _ _ (λ h. to_z-of_z w32 _ rx ∙ x h) (λ h. to_z-of_z w32 _ ry ∙ y h) reached
+    shift_place c.held-dx.result.0 c.held-dx.result.1 l c.held-dx.ensures.layer c.args.at _ _ (λ h. to_z-of_z w32 _ rx ∙ x h) (λ h. to_z-of_z w32 _ ry ∙ y h) reached
     ∙ sym (cond-true (handable_dot (step l c.args.at)) (step l c.args.at) c.args.at reached)

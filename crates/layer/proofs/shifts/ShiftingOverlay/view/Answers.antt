@@ -4,7 +4,7 @@ use Rattle.plate.specs.Plates.{Framed}
 use Rattle.plate.specs.Windows.{Framed-window_of}
 use Rattle.layer.specs.Layers.{shift_layer}
 use Rattle.layer.specs.Views.{view}
-use Rattle.layer.proofs.Sums.{shift-view}
+use Rattle.layer.proofs.Sums.{shift_view}
 use Rattle.layer.proofs.shifts.ShiftingOverlay.view.Goals as goal
 
 pub returns : goal.returns
@@ -30,7 +30,7 @@ returns c =
     let framed = subst Framed (sym c.made-below.ensures) (Framed-window_of c.args.below) in
     let layer = shift_layer c.args.self.now in
     c.clipped.ensures
-    ∙ shift-view c.held-dx.result.0 c.held-dx.result.1 layer c.held-dx.ensures.layer c.made-below.result c.held-dx.ensures.small
+    ∙ shift_view c.held-dx.result.0 c.held-dx.result.1 layer c.held-dx.ensures.layer c.made-below.result c.held-dx.ensures.small
     c.negated-back.result c.negated-up.result _ _ _ _ back up
     (λ h. to_z-of_z w32 _ rl ∙ l h) (λ h. to_z-of_z w32 _ rt ∙ t h) (λ h. to_z-of_z w32 _ rr ∙ r h) (λ h. to_z-of_z w32 _ rb ∙ b h) framed
     ∙ ap (view layer) c.made-below.ensures
