@@ -1,5 +1,5 @@
 -- A walk: what a visitor was handed so far, followed by what is still to come, is the whole.
-use Rattle.std.proofs.Common.{◌≡◌, ℕ, zero, suc, ◌+◌, ◌-◌, ◌<◌, ◌≤◌, List, [], ◌∷◌, ◌++◌, sym, refl, ap, ◌∙◌, subst, append_assoc, append-nil, arith}
+use Rattle.std.proofs.Common.{◌≡◌, ℕ, suc, ◌+◌, ◌-◌, ◌<◌, ◌≤◌, List, [], ◌∷◌, ◌++◌, sym, ap, ◌∙◌, subst, append_assoc, append-nil, arith}
 use Rattle.plate.specs.World.{Dot}
 use Rattle.figure.specs.Visits.{VisitLaws}
 use Rattle.figure.specs.Lines.{longer, line_dot, line_dots, dots_from}

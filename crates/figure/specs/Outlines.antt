@@ -1,5 +1,5 @@
 -- The dots of an outline.
-use Rattle.std.specs.Prelude.{ℕ, Bool, false, cond, ◌&&◌, ◌||◌, List, [], ◌∷◌, ◌++◌, ℤ, pos, ◌+ℤ◌, ◌-ℤ◌, Some, None, Option, int_le}
+use Rattle.std.specs.Prelude.{ℕ, Bool, cond, ◌&&◌, List, [], ◌∷◌, ℤ, pos, ◌+ℤ◌, ◌-ℤ◌, Some, None, Option, int_le}
 use Rattle.std.specs.List.{flat_map}
 use Rattle.plate.specs.World.{Dot, world}
 use Rattle.ellipse.specs.Ellipses.{pairs}

@@ -1,15 +1,14 @@
 -- Proofs: a layer over a plate keeps the laws of plates. Nothing here needs to be believed.
-use Rattle.std.specs.Prelude.{◌≡◌, ℕ, suc, ◌+◌, Bool, true, false, cond, ◌&&◌, List, [], ◌∷◌, ◌++◌, map, length, ℤ, pos, negsuc, ◌+ℤ◌, ◌-ℤ◌, neg_ℤ, ◌≤ℤ◌, refl}
+use Rattle.std.specs.Prelude.{◌≡◌, ℕ, ◌+◌, Bool, true, cond, ◌&&◌, List, [], ◌∷◌, ◌++◌, map, ℤ, pos, ◌+ℤ◌, refl}
 use Rattle.std.proofs.Common.{sym, ap, subst, ◌∙◌, inl, inr, arith}
-use Rattle.std.specs.Int.Signed.{le_z}
 use Rattle.std.proofs.lemmas.List.{map-append, length-map}
 use Rattle.std.proofs.lemmas.Int.{ints, clamps}
 use Rattle.std.proofs.lemmas.Bool.{and_parts, and_from, cases_Bool, cond-true, cond-false}
 use Rattle.plate.specs.declared.Facing.{Facing}
 use Rattle.plate.specs.declared.Facing.TheVariants.{Same, Quarter, Half, Back, AcrossX, AcrossY, Swap, Anti}
 use Rattle.plate.specs.declared.Window.{Window}
-use Rattle.plate.specs.World.{Dot, within, world, inside, inked, canonical}
-use Rattle.plate.specs.Plates.{Strike, Meaning, After, Framed, Seen, Layer, mask, shift, turn, Laws, same, struck, lit_after, turned, step, admits, place, shows, sunk, near, meaning}
+use Rattle.plate.specs.World.{Dot, within, world, inside, inked}
+use Rattle.plate.specs.Plates.{Strike, Meaning, After, Framed, Seen, Layer, mask, shift, turn, Laws, same, struck, lit_after, turned, step, admits, sunk, near, meaning}
 use Rattle.plate.specs.Windows.{both, In, inside_orders, orders_inside, same_orders, orders_same, inside-canonical, canonical_twice}
 use Rattle.layer.specs.Layers.{shift_by}
 use Rattle.layer.specs.Views.{whole, overlap, clipped, unturned, pulled, view}

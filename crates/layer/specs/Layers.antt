@@ -1,5 +1,5 @@
 -- What masks, shifts and turns are made from, and which layer each then is.
-use Rattle.std.specs.Prelude.{◌≡◌, ℕ, Bool, true, cond, ◌&&◌, ℤ, pos, int_le}
+use Rattle.std.specs.Prelude.{ℕ, Bool, cond, ◌&&◌, ℤ, pos, int_le}
 use Rattle.plate.specs.World.{world, window_of}
 use Rattle.plate.specs.Plates.{Layer, mask, shift, turn}
 use Rattle.layer.specs.declared.LayerRefusal.{LayerRefusal}

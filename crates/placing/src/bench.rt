@@ -58,12 +58,12 @@ pub(crate) fn blank() -> Record {
     }
 }
 
-fn is_blank(record: Record) -> bool {
-    record.x == i32::MAX && record.y == i32::MIN && matches!(record.ink, Ink::Clear)
+fn is_blank(kept: Record) -> bool {
+    kept.x == i32::MAX && kept.y == i32::MIN && matches!(kept.ink, Ink::Clear)
 }
 
-fn lights(record: Record, at: Dot) -> bool {
-    record.x == at.0 && record.y == at.1 && matches!(record.ink, Ink::Light)
+fn lights(kept: Record, at: Dot) -> bool {
+    kept.x == at.0 && kept.y == at.1 && matches!(kept.ink, Ink::Light)
 }
 
 // Whether the strip took one strike, that lit this dot.

@@ -1,5 +1,5 @@
 -- What calls answer: a value, or the number of a refusal.
-use Rattle.std.specs.Prelude.{ℕ, Bool, cond, Ok, Err, Result}
+use Rattle.std.specs.Prelude.{ℕ, Ok, Err, Result}
 use Rattle.plate.specs.declared.StrikeRefusal.{StrikeRefusal}
 use Rattle.plate.specs.declared.StrikeRefusal.TheVariants.{Outside, NoShots}
 use Rattle.plate.specs.declared.WindowRefusal.{WindowRefusal}

@@ -1,9 +1,9 @@
 -- Proofs: the laws of a plate over which nothing lies. Nothing here needs to be believed.
-use Rattle.std.specs.Prelude.{◌≡◌, ℕ, ◌+◌, Bool, true, cond, List, [], ◌∷◌, ◌++◌, map, length, refl}
+use Rattle.std.specs.Prelude.{◌≡◌, ℕ, Bool, cond, List, [], ◌∷◌, ◌++◌, refl}
 use Rattle.std.proofs.Common.{sym, ap, subst, ◌∙◌, map-id, arith, length-append}
 use Rattle.plate.specs.declared.Window.{Window}
 use Rattle.plate.specs.World.{Dot, inside, inked}
-use Rattle.plate.specs.Plates.{Strike, Meaning, After, Framed, Layer, Laws, same, struck, lit_after, AllIn, sunk, meaning}
+use Rattle.plate.specs.Plates.{Strike, Meaning, After, Framed, Laws, same, struck, lit_after, AllIn, meaning}
 
 -- strikes after strikes
 pub lit_after-append : (xs ys : List Strike) (lit : Dot → Bool) (p : Dot) → lit_after (xs ++ ys) lit p ≡ lit_after ys (λ q. lit_after xs lit q) p

@@ -1,10 +1,10 @@
 -- What a plate means, how strikes change it, and what a pile of masks, shifts and turns shows of its lowest plate.
-use Rattle.std.specs.Prelude.{◌≡◌, ℕ, ◌+◌, Bool, true, false, cond, ◌&&◌, List, [], ◌∷◌, ◌++◌, map, length, ℤ, ◌+ℤ◌, neg_ℤ, Some, None, Option, ◌==◌, int_le}
+use Rattle.std.specs.Prelude.{◌≡◌, ℕ, ◌+◌, Bool, true, cond, ◌&&◌, List, [], ◌∷◌, ◌++◌, map, length, ℤ, ◌+ℤ◌, neg_ℤ, Some, None, Option, ◌==◌, int_le}
 use Rattle.plate.specs.declared.Ink.{Ink}
 use Rattle.plate.specs.declared.Window.{Window}
 use Rattle.plate.specs.declared.Facing.{Facing}
 use Rattle.plate.specs.declared.Facing.TheVariants.{Same, Quarter, Half, Back, AcrossX, AcrossY, Swap, Anti}
-use Rattle.plate.specs.World.{Dot, world, within, inside, canonical, inked}
+use Rattle.plate.specs.World.{Dot, world, inside, canonical, inked}
 use Rattle.plate.specs.Answers.{Answer, done, refused}
 
 -- a strike: which dot, and with which ink

@@ -1,5 +1,5 @@
 -- Dots, windows and inks.
-use Rattle.std.specs.Prelude.{◌≡◌, ℕ, Bool, true, false, cond, not, ◌&&◌, ℤ, pos, negsuc, int_le}
+use Rattle.std.specs.Prelude.{Bool, true, false, cond, not, ◌&&◌, ℤ, pos, negsuc, int_le}
 use Rattle.plate.specs.declared.Ink.{Ink}
 use Rattle.plate.specs.declared.Ink.TheVariants.{Light, Clear, Flip}
 use Rattle.plate.specs.declared.Window.{Window}

@@ -5,7 +5,7 @@ use lib.Seq.{sets, sets-eq}
 use Rattle.std.proofs.lemmas.Fmt.{decimal_digit, decimal_step}
 use Rattle.std.proofs.lemmas.List.{append_assoc, drop-drop, at_drop_more, at_drop_all}
 use Rattle.std.proofs.lemmas.Bool.{leb-true, lt-leb, cond-true, cond-false}
-use Rattle.plate.specs.Answers.{Answer, done, refused}
+use Rattle.plate.specs.Answers.{done, refused}
 use Rattle.report.specs.declared.Piece.{Piece}
 use Rattle.report.specs.Lines.{line_answer, written}
 use Rattle.report.specs.Pieces.{said, said_all}

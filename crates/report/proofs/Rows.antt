@@ -1,11 +1,11 @@
 -- The marks of a row, one after another, and that questions change none of them.
-use Rattle.std.proofs.Common.{◌≡◌, ℕ, zero, suc, ◌+◌, ◌-◌, ◌<◌, ◌≤◌, Bool, true, cond, leb, List, [], ◌∷◌, ◌++◌, length, set, ℤ, pos, negsuc, ◌+ℤ◌, ◌-ℤ◌, nat_abs, ◌≤ℤ◌, sym, refl, ap, ◌∙◌, zero-add, add-one, arith, length-append, w32, SFits}
+use Rattle.std.proofs.Common.{◌≡◌, ℕ, zero, suc, ◌+◌, ◌-◌, ◌<◌, ◌≤◌, Bool, true, List, [], ◌∷◌, length, set, ℤ, pos, negsuc, ◌+ℤ◌, ◌-ℤ◌, nat_abs, ◌≤ℤ◌, sym, refl, ap, ◌∙◌, zero-add, add-one, arith, length-append, w32, SFits}
 use lib.Seq.{sets}
 use Rattle.std.proofs.lemmas.Int.{ints}
 use Rattle.std.proofs.lemmas.Bool.{cond-true, le-leb}
 use Rattle.plate.specs.declared.Window.{Window}
 use Rattle.plate.specs.World.{Dot, inside}
-use Rattle.plate.specs.Answers.{Answer, done, refused}
+use Rattle.plate.specs.Answers.{done, refused}
 use Rattle.plate.specs.Plates.{Strike, Meaning, Layer, Laws}
 use Rattle.plate.specs.Windows.{inside_orders, orders_inside, world_orders}
 use Rattle.report.specs.Lines.{mark, marks, breadth, has_row, row_line, line_answer, written, row_answer, row_written}

@@ -1,5 +1,5 @@
 -- One record after another.
-use Rattle.std.proofs.Common.{◌≡◌, ℕ, ◌+◌, ◌-◌, ◌<◌, min, Bool, true, false, cond, List, map, length, get_or, take, drop, ℤ, sym, ap, ◌∙◌, inl, inr, arith, SFits, to_z, of_z}
+use Rattle.std.proofs.Common.{◌≡◌, ℕ, ◌+◌, ◌-◌, ◌<◌, min, Bool, List, map, length, get_or, take, drop, ℤ, sym, ap, ◌∙◌, inl, inr, arith, SFits, to_z, of_z}
 use mir.Syntax.{Width}
 use Rattle.std.proofs.lemmas.List.{at_drop_more, take_all}
 use Rattle.std.proofs.lemmas.Int.{to_z-of_z}

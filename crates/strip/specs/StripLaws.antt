@@ -1,9 +1,9 @@
 -- Proofs: a strip keeps the laws of plates. Nothing here needs to be believed.
-use Rattle.std.specs.Prelude.{◌≡◌, ℕ, suc, ◌+◌, ◌-◌, ◌<◌, ◌≤◌, min, Bool, true, false, List, [], ◌∷◌, ◌++◌, map, length, take, slice_set, refl}
+use Rattle.std.specs.Prelude.{◌≡◌, ℕ, suc, ◌+◌, ◌-◌, ◌<◌, ◌≤◌, min, false, List, [], ◌∷◌, ◌++◌, map, length, take, slice_set, refl}
 use Rattle.std.proofs.Common.{sym, ap, subst, ◌∙◌, arith, add-one, length-set, length-append}
 use Rattle.std.proofs.lemmas.List.{map-append, take_more_set}
 use Rattle.plate.specs.World.{Dot, inside, window_of}
-use Rattle.plate.specs.Plates.{Strike, Laws, After, AllIn, struck, lit_after, meaning}
+use Rattle.plate.specs.Plates.{Strike, Laws, After, AllIn, struck, lit_after}
 use Rattle.plate.specs.Windows.{Framed-window_of}
 use Rattle.plate.specs.Bare.{lit_after-append, lit_after_at, AllIn-append, bare_laws}
 use Rattle.strip.specs.declared.Record.{Record}

@@ -1,5 +1,5 @@
 -- A strip keeps its strikes in order, as records.
-use Rattle.std.specs.Prelude.{◌≡◌, ℕ, suc, ◌+◌, ◌-◌, ◌≤◌, min, Bool, true, false, List, [], ◌∷◌, map, length, take, slice_set}
+use Rattle.std.specs.Prelude.{◌≡◌, ℕ, suc, ◌+◌, ◌-◌, ◌≤◌, min, Bool, false, List, [], ◌∷◌, map, length, take, slice_set}
 use Rattle.plate.specs.World.{Dot, inside, window_of}
 use Rattle.plate.specs.Plates.{Strike, Meaning, lit_after, AllIn}
 use Rattle.strip.specs.declared.Record.{Record}

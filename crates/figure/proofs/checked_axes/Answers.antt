@@ -1,6 +1,6 @@
-use Rattle.std.proofs.Common.{nat_abs, sym, refl, ap, ◌∙◌, inl, inr, arith, w32, SFits, rules}
+use Rattle.std.proofs.Common.{nat_abs, sym, ap, arith, w32, SFits, rules}
 use Rattle.std.proofs.lemmas.Int.{to_z-of_z}
-use Rattle.figure.proofs.Axes.{axis_few, no_cause_in, centre_out, axis_out}
+use Rattle.figure.proofs.Axes.{axis_few, no_cause_in}
 use Rattle.figure.proofs.checked_axes.Goals as goal
 
 pub overflow_cast-result : goal.overflow_cast-result

@@ -1,4 +1,4 @@
-use Rattle.std.proofs.Common.{◌≡◌, arith}
+use Rattle.std.proofs.Common.{arith}
 use Rattle.report.proofs.Places.{length_one, length_more, sets_one, sets_more}
 use Rattle.report.proofs.+put_number.Goals.{then-n-lt10, else-n-lt10}
 use Rattle.report.proofs.+put_number.Goals as goal

@@ -1,4 +1,4 @@
-use Rattle.std.proofs.Common.{◌≤◌, set, ap, ◌∙◌, arith, w32, SFits, rules}
+use Rattle.std.proofs.Common.{set, ap, ◌∙◌, arith, w32, SFits, rules}
 use lib.Seq.{sets}
 use Rattle.std.proofs.lemmas.Int.{to_z-of_z}
 use Rattle.report.proofs.Rows.{row_known, row_short, row_whole, row_asked, row_told}

@@ -1,4 +1,4 @@
-use Rattle.std.proofs.Common.{false, map, sym, refl, ◌∙◌}
+use Rattle.std.proofs.Common.{map, sym, refl, ◌∙◌}
 use Rattle.std.proofs.lemmas.List.{at_drop_all}
 use Rattle.std.proofs.lemmas.Int.{to_z-of_z}
 use Rattle.plate.specs.Plates.{lit_after}

@@ -1,4 +1,4 @@
-use Rattle.std.proofs.Common.{◌<◌, ◌≤◌, sym, arith}
+use Rattle.std.proofs.Common.{sym, arith}
 use Rattle.ellipse.proofs.Laws.{width}
 use Rattle.figure.proofs.Reaches.{ended, goes_on}
 use Rattle.figure.proofs.fills.reach_outward.Goals as goal

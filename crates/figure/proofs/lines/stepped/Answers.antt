@@ -1,4 +1,4 @@
-use Rattle.std.proofs.Common.{◌∙◌, arith, w32}
+use Rattle.std.proofs.Common.{arith}
 use Rattle.std.proofs.lemmas.Int.{ints, to_z-of_z}
 use Rattle.plate.specs.Windows.{within_orders}
 use Rattle.figure.proofs.Crossings.{toward_up, toward-down}

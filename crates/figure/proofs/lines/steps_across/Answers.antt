@@ -1,4 +1,4 @@
-use Rattle.std.proofs.Common.{◌≡◌, ◌*◌, ◌/◌, ap, ◌∙◌, arith}
+use Rattle.std.proofs.Common.{◌*◌, ◌/◌, ap, ◌∙◌, arith}
 use Rattle.figure.proofs.Crossings.{across_none, across_some, across_few}
 use Rattle.figure.proofs.lines.steps_across.Goals as goal
 

@@ -1,4 +1,4 @@
-use Rattle.std.proofs.Common.{◌≡◌, ◌+◌, ◌-◌}
+use Rattle.std.proofs.Common.{◌+◌, ◌-◌}
 use Rattle.figure.specs.Lines.{longer, line_dot, line_dots, dots_from}
 use Rattle.figure.proofs.Walks.{Walked}
 use Rattle.figure.proofs.lines.walk_line.Given as goal

@@ -3,7 +3,7 @@ use Rattle.std.proofs.lemmas.Int.{to_z-of_z}
 use Rattle.std.proofs.lemmas.Bool.{cond-true, cond-false}
 use Rattle.plate.specs.World.{Dot, within}
 use Rattle.plate.specs.Windows.{world_parts}
-use Rattle.figure.specs.Corners.{fresh, corner, corner_dots, signs}
+use Rattle.figure.specs.Corners.{fresh, corner}
 use Rattle.figure.proofs.outlines.visit_corner.Goals as goal
 
 pub offset-requires : goal.offset-requires

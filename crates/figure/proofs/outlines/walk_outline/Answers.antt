@@ -1,7 +1,6 @@
-use Rattle.std.proofs.Common.{◌+◌, ◌-◌, ◌<◌, ◌≤◌, [], ◌∷◌, sym, refl, ap, ◌∙◌, subst, arith}
-use Rattle.ellipse.proofs.Places.{place_start, coming_start, coming, above_0, go_on, go_down, go_side, go_end}
+use Rattle.std.proofs.Common.{◌+◌, ◌-◌, [], sym, refl, ◌∙◌, arith}
+use Rattle.ellipse.proofs.Places.{place_start, coming_start, coming, go_on, go_down, go_side, go_end}
 use Rattle.figure.specs.Corners.{corner_dots, corners_from}
-use Rattle.figure.specs.Outlines.{outline_dots}
 use Rattle.figure.proofs.Kept.{pair_dots, outline_pairs, next_pair, next_sign, no_sign}
 use Rattle.figure.proofs.Walks.{start, turn, finish}
 use Rattle.figure.proofs.outlines.walk_outline.Goals as goal

@@ -1,4 +1,4 @@
-use Rattle.std.proofs.Common.{◌+◌, ◌^◌, ◌<◌, arith, rules}
+use Rattle.std.proofs.Common.{arith, rules}
 use Rattle.figure.proofs.Calls.{shape_few}
 use Rattle.figure.proofs.shapes.count.Goals as goal
 

@@ -1,4 +1,4 @@
-use Rattle.std.proofs.Common.{◌+ℤ◌, ap, ◌∙◌, w32, SFits, rules}
+use Rattle.std.proofs.Common.{◌+ℤ◌, ◌∙◌, w32, SFits, rules}
 use Rattle.std.proofs.lemmas.Int.{to_z-of_z}
 use Rattle.layer.proofs.Sums.{handable_fits, saturated_is}
 use Rattle.layer.proofs.numbers.added.Goals as goal

@@ -1,4 +1,3 @@
-use Rattle.std.proofs.Common.{◌∙◌}
 use Rattle.std.proofs.lemmas.Int.{to_z-of_z}
 use Rattle.layer.proofs.Sums.{can_negate_is}
 use Rattle.layer.proofs.numbers.can_negate.Goals as goal

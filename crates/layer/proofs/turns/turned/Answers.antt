@@ -1,6 +1,6 @@
 use Rattle.std.proofs.Common.{◌∙◌, w32, SFits, rules}
 use Rattle.std.proofs.lemmas.Int.{to_z-of_z}
-use Rattle.plate.specs.declared.Facing.TheVariants.{Same, Quarter, Half, Back, AcrossX, AcrossY, Swap, Anti}
+use Rattle.plate.specs.declared.Facing.TheVariants.{Quarter, Half, Back, AcrossX, AcrossY, Anti}
 use Rattle.layer.proofs.Sums.{turned_is}
 use Rattle.layer.proofs.turns.turned.Goals as goal
 

@@ -1,4 +1,4 @@
-use Rattle.std.proofs.Common.{sym, ◌∙◌, arith, w32, SFits, rules}
+use Rattle.std.proofs.Common.{sym, ◌∙◌, w32, SFits, rules}
 use Rattle.std.proofs.lemmas.Int.{to_z-of_z}
 use Rattle.plate.specs.World.{canonical}
 use Rattle.plate.proofs.Window.canonical.Goals as goal
