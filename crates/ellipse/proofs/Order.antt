@@ -1,6 +1,6 @@
 -- `pairs` is in order, and has just the lighted pairs.
 use Rattle.std.proofs.Common.{◌≡◌, ℕ, zero, suc, ◌+◌, ◌<◌, ◌≤◌, Bool, true, List, [], ◌∷◌, ◌++◌, sym, refl, subst, inl, inr, arith}
-use Rattle.std.specs.List.{ContainsAt as Has, AllByRecursion as All}
+use Rattle.std.specs.List.{ContainsAt, AllByRecursion}
 use Rattle.std.proofs.ByRecursion.{All-append, All-weaker, has_append_left, has_append_right, has_push}
 use Rattle.std.proofs.lemmas.Bool.{cases_eq, both_ways, cond_both}
 use Rattle.ellipse.specs.Ellipses.{lighted, column, columns, pairs, Before, Ordered, Listed}
@@ -12,7 +12,7 @@ Test = ℕ → ℕ → Bool
 abbrev Pair : Type 0
 Pair = ℕ × ℕ
 
-Ordered-++ : (ps qs : List Pair) → Ordered ps → Ordered qs → All (λ p. All (Before p) qs) ps → Ordered (ps ++ qs)
+Ordered-++ : (ps qs : List Pair) → Ordered ps → Ordered qs → AllByRecursion (λ p. AllByRecursion (Before p) qs) ps → Ordered (ps ++ qs)
 Ordered-++ [] qs o r h = r
 Ordered-++ (p ∷ ps) qs o r h = (All-append (Before p) ps qs o.0 h.0, Ordered-++ ps qs o.1 r h.1)
 
@@ -20,12 +20,12 @@ Ordered-++ (p ∷ ps) qs o r h = (All-append (Before p) ps qs o.0 h.0, Ordered-+
 Under : ℕ → ℕ → Pair → Type 0
 Under x k q = (q.0 ≡ x) × (q.1 < k)
 
-column-Under : (p : Test) (x k : ℕ) → All (Under x k) (column p x k)
+column-Under : (p : Test) (x k : ℕ) → AllByRecursion (Under x k) (column p x k)
 unfolding Under
 column-Under p x zero = tt
 column-Under p x (suc k) =
-    let up : All (Under x (suc k)) (column p x k) = All-weaker (Under x k) (Under x (suc k)) (λ q h. (h.0, omega (arith, h.1))) _ (column-Under p x k) in
-    cond_both (p x k) _ _ (All (Under x (suc k))) (λ _. ((refl, omega arith), up)) (λ _. up)
+    let up : AllByRecursion (Under x (suc k)) (column p x k) = All-weaker (Under x k) (Under x (suc k)) (λ q h. (h.0, omega (arith, h.1))) _ (column-Under p x k) in
+    cond_both (p x k) _ _ (AllByRecursion (Under x (suc k))) (λ _. ((refl, omega arith), up)) (λ _. up)
 
 column-Ordered : (p : Test) (x k : ℕ) → Ordered (column p x k)
 unfolding Under
@@ -35,7 +35,7 @@ column-Ordered p x (suc k) =
     (λ _. (All-weaker (Under x k) (Before (x, k)) (λ q h. inr (sym h.0, h.1)) _ (column-Under p x k), column-Ordered p x k))
     (λ _. column-Ordered p x k)
 
-columns_from : (p : Test) (b x n : ℕ) → All (λ q. x ≤ q.0) (columns p b x n)
+columns_from : (p : Test) (b x n : ℕ) → AllByRecursion (λ q. x ≤ q.0) (columns p b x n)
 unfolding Under
 columns_from p b x zero = tt
 columns_from p b x (suc n) =
@@ -48,37 +48,37 @@ unfolding Under
 columns-Ordered p b x zero = tt
 columns-Ordered p b x (suc n) =
     Ordered-++ (column p x (suc b)) (columns p b (suc x) n) (column-Ordered p x (suc b)) (columns-Ordered p b (suc x) n)
-    (All-weaker (Under x (suc b)) (λ r. All (Before r) (columns p b (suc x) n))
+    (All-weaker (Under x (suc b)) (λ r. AllByRecursion (Before r) (columns p b (suc x) n))
     (λ r h. All-weaker (λ q. suc x ≤ q.0) (Before r) (λ q k. inl (omega (arith, h.0))) _ (columns_from p b (suc x) n))
     _ (column-Under p x (suc b)))
 
 Passes : Test → Pair → Type 0
 Passes p q = p q.0 q.1 ≡ true
 
-column_sound : (p : Test) (x k : ℕ) → All (Passes p) (column p x k)
+column_sound : (p : Test) (x k : ℕ) → AllByRecursion (Passes p) (column p x k)
 unfolding Passes
 column_sound p x zero = tt
 column_sound p x (suc k) =
-    cond_both (p x k) _ _ (All (Passes p)) (λ e. (e, column_sound p x k)) (λ _. column_sound p x k)
+    cond_both (p x k) _ _ (AllByRecursion (Passes p)) (λ e. (e, column_sound p x k)) (λ _. column_sound p x k)
 
-columns_sound : (p : Test) (b x n : ℕ) → All (Passes p) (columns p b x n)
+columns_sound : (p : Test) (b x n : ℕ) → AllByRecursion (Passes p) (columns p b x n)
 columns_sound p b x zero = tt
 columns_sound p b x (suc n) = All-append (Passes p) (column p x (suc b)) _ (column_sound p x (suc b)) (columns_sound p b (suc x) n)
 
-column-whole : (p : Test) (x y k : ℕ) → y < k → p x y ≡ true → Has (column p x k) (x, y)
+column-whole : (p : Test) (x y k : ℕ) → y < k → p x y ≡ true → ContainsAt (column p x k) (x, y)
 column-whole p x y zero h e = absurd (omega arith)
 column-whole p x y (suc k) h e = elim (cases_eq k y) [
-  | inl q ↦ cond_both (p x k) _ _ (λ l. Has l (x, y))
-      (λ _. has_append_left ((x, k) ∷ []) (column p x k) (x, y) (subst (λ j. Has {X = Pair} ((x, k) ∷ []) (x, j)) q (has_push [] (x, k))))
+  | inl q ↦ cond_both (p x k) _ _ (λ l. ContainsAt l (x, y))
+      (λ _. has_append_left ((x, k) ∷ []) (column p x k) (x, y) (subst (λ j. ContainsAt {X = Pair} ((x, k) ∷ []) (x, j)) q (has_push [] (x, k))))
       (λ f. absurd (both_ways _ f (subst (λ j. p x j ≡ true) (sym q) e)))
   | inr n ↦ (let i = column-whole p x y k (omega arith) e in
-      cond_both (p x k) _ _ (λ l. Has l (x, y)) (λ _. has_append_right ((x, k) ∷ []) (column p x k) (x, y) i) (λ _. i))
+      cond_both (p x k) _ _ (λ l. ContainsAt l (x, y)) (λ _. has_append_right ((x, k) ∷ []) (column p x k) (x, y) i) (λ _. i))
 ]
 
-columns-whole : (p : Test) (b x y z n : ℕ) → z ≤ x → x < z + n → y ≤ b → p x y ≡ true → Has (columns p b z n) (x, y)
+columns-whole : (p : Test) (b x y z n : ℕ) → z ≤ x → x < z + n → y ≤ b → p x y ≡ true → ContainsAt (columns p b z n) (x, y)
 columns-whole p b x y z zero h k l e = absurd (omega arith)
 columns-whole p b x y z (suc n) h k l e = elim (cases_eq x z) [
-  | inl q ↦ has_append_left (column p z (suc b)) _ (x, y) (subst (λ j. Has (column p j (suc b)) (x, y)) q (column-whole p x y (suc b) (omega arith) e))
+  | inl q ↦ has_append_left (column p z (suc b)) _ (x, y) (subst (λ j. ContainsAt (column p j (suc b)) (x, y)) q (column-whole p x y (suc b) (omega arith) e))
   | inr d ↦ has_append_right (column p z (suc b)) _ (x, y) (columns-whole p b x y (suc z) n (omega arith) (omega arith) l e)
 ]
 

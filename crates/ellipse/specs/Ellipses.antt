@@ -1,6 +1,6 @@
 -- The raster ellipse about (0, 0) with the semi-axes a along x and b along y: its lighted pairs (x, y) with x, y ≥ 0.
 use Rattle.std.specs.Prelude.{◌≡◌, ℕ, zero, suc, ◌+◌, ◌-◌, ◌*◌, ◌<◌, ◌≤◌, Bool, true, false, cond, ◌&&◌, ◌||◌, ◌⊎◌, List, [], ◌∷◌, ◌++◌, ◌==◌, nat_le, nat_lt}
-use Rattle.std.specs.List.{ContainsAt as Has, AllByRecursion as All}
+use Rattle.std.specs.List.{ContainsAt, AllByRecursion}
 
 -- a place lies within the ellipse when a²w² + 4b²x² ≤ 4a²b², w being its height in half steps: these are the two sides
 abbrev pub full : ℕ → ℕ → ℕ
@@ -44,13 +44,13 @@ Before p q = (p.0 < q.0) ⊎ ((p.0 ≡ q.0) × (q.1 < p.1))
 
 abbrev pub Ordered : List (ℕ × ℕ) → Type 0
 Ordered [] = Unit {0}
-Ordered (p ∷ ps) = All (Before p) ps × Ordered ps
+Ordered (p ∷ ps) = AllByRecursion (Before p) ps × Ordered ps
 
 -- a list in this order of the lighted pairs, of these alone and of all of them
 pub record Listed (a b : ℕ) (ps : List (ℕ × ℕ)) : Type 0 where
   pub ordered : Ordered ps
-  pub sound : All (λ p. lighted a b p.0 p.1 ≡ true) ps
-  pub whole : (x y : ℕ) → lighted a b x y ≡ true → Has ps (x, y)
+  pub sound : AllByRecursion (λ p. lighted a b p.0 p.1 ≡ true) ps
+  pub whole : (x y : ℕ) → lighted a b x y ≡ true → ContainsAt ps (x, y)
 
 -- The laws of the shape.
 pub record EllipseLaws : Type 0 where

@@ -1,6 +1,6 @@
 -- An outline names no dot twice.
 use Rattle.std.proofs.Common.{◌≡◌, ℕ, zero, suc, true, false, List, [], ◌∷◌, ◌++◌, ℤ, pos, ◌+ℤ◌, ◌-ℤ◌, neg_ℤ, nat_abs, sym, refl, ap, ◌∙◌, subst, inl, inr, arith}
-use Rattle.std.specs.List.{AllByRecursion as All}
+use Rattle.std.specs.List.{AllByRecursion}
 use Rattle.std.proofs.lemmas.Int.{ints}
 use Rattle.std.proofs.lemmas.Bool.{cases_Bool, or_cases, or_parts, or_from, or_left, or_right, true≢false, cond-true, cond-false}
 use Rattle.plate.specs.World.{Dot}
@@ -88,7 +88,7 @@ distinct_append (x ∷ xs) ys p q r = (has-append x xs ys p.0 (r x (or_left (sam
 before_apart : (p q : ℕ × ℕ) → Before p q → p ≡ q → ⊥
 before_apart p q h e = let x = ap (λ (r : ℕ × ℕ). r.0) e in let y = ap (λ (r : ℕ × ℕ). r.1) e in elim h [ inl l ↦ omega arith | inr r ↦ (let m = r.1 in omega arith) ]
 
-not_later : (c d : Dot) (p : ℕ × ℕ) (ps : List (ℕ × ℕ)) → pair_of c d ≡ p → All (Before p) ps → has d (pair_dots c ps) ≡ false
+not_later : (c d : Dot) (p : ℕ × ℕ) (ps : List (ℕ × ℕ)) → pair_of c d ≡ p → AllByRecursion (Before p) ps → has d (pair_dots c ps) ≡ false
 not_later c d p [] e o = refl
 not_later c d p (q ∷ qs) e o = has-append d (once [] (corners c q)) (pair_dots c qs) (elim (cases_Bool (has d (once [] (corners c q)))) [
   | inl t ↦ absurd (before_apart p q o.0 (sym e ∙ corner_pair c d q.0 q.1 (once_sub [] (corners c q) d t)))
