@@ -10,6 +10,7 @@ import glob
 import re
 
 TABLE = """
+Opens opens
 above-0 above_0
 above-div above_div
 abs-few abs_few
@@ -29,6 +30,7 @@ after_none After_none
 all-dots all_dots
 all-in-join AllIn-append
 all-rows all_rows
+along-apart along_apart
 along-back along_back
 along-spans along_spans
 along-wide along_wide
@@ -43,7 +45,7 @@ axis-bounds axis_bounds
 axis-few axis_few
 axis-out axis_out
 bare-laws bare_laws
-before-apart before_apart
+before-apart Before_apart
 below-mod below_mod
 bit-hit bit_hit
 bit-missed bit_missed
@@ -87,10 +89,12 @@ column-none column_none
 column-ordered column-Ordered
 column-sound column_sound
 column-under column-Under
+column-whole column_whole
 columns-few columns_few
 columns-from columns_from
 columns-ordered columns-Ordered
 columns-sound columns_sound
+columns-whole columns_whole
 coming-start coming_start
 cond-few cond_few
 corner-pair corner_pair
@@ -101,6 +105,8 @@ counter-laws counter_laws
 covered-not covered_not
 covered-to covered_to
 digit-back digit_back
+distinct_append Distinct-append
+distinct_from Distinct_from
 dotCount dot_count
 dots-length dots_length
 dotsFrom dots_from
@@ -134,16 +140,19 @@ framed-clipped Framed-clipped
 framed-empty Framed-empty
 framed-frame Framed-frame
 framed-windowOf Framed-window_of
+full-turned full_turned
 gap-few gap_few
 go-down go_down
 go-end go_end
 go-side go_side
 ground framed_below
 handable-fits handable_fits
+handable-near handable_near
 handable-orders handable_orders
 handable-parts handable_parts
 handableDot handable_dot
 has-later has_later
+has-reach has_reach
 hasDots has_dots
 height-is height_is
 in-uncrossed In-uncrossed
@@ -154,6 +163,8 @@ inked-split inked_split
 inkedByte inked_byte
 inkedWith inked_with
 inside-orders inside_orders
+is-cell is_cell
+is-inside is_inside
 joinedTurn joined_turn
 kept-once kept_once
 laid-onto laid_onto
@@ -164,6 +175,7 @@ le-true le_true
 length-one length_one
 length-row length_row
 length-unsaid length_unsaid
+level-turned level_turned
 lightedOf lighted_of
 line-few line_few
 line-is line_is
@@ -197,11 +209,13 @@ next-sign next_sign
 no-cause no_cause
 no-cause-in no_cause_in
 no-dot no_dot
+no-match no_match
 noDots no_dots
 not-here not_here
 not-later not_later
 not-spare not_spare
 odd-more odd_more
+once-apart once_apart
 once-distinct once-Distinct
 once-few once_few
 once-sub once_sub
@@ -232,6 +246,7 @@ place-start place_start
 place-turns place_turns
 placeBelow place_below
 printNumber print_number
+r-is r_is
 reachOf reach_of
 recordOf record_of
 recorded-join recorded-append
@@ -254,7 +269,9 @@ rowDot row_dot
 rowWritten row_written
 row_written written-row_line
 rule-laws rule_laws
+same-inside same_inside
 same-lit same_lit
+same-marks same_marks
 same-orders same_orders
 same-shots same_shots
 saturated-is saturated_is
@@ -284,9 +301,11 @@ signsOf signs_of
 sized-limits sized-Limits
 spanned-dots spanned_dots
 spans-orders Spans_orders
-spans-same Spans-same
+spans-same Spans_same
 spare-kept spare_kept
 spares-stay spares_stay
+step-near step_near
+step-once step_once
 step-turns step_turns
 stepsMade steps_made
 strike-closed strike_closed
@@ -300,8 +319,11 @@ strip-laws strip_laws
 strip-none strip_none
 stripMeaning strip_meaning
 struck-all struck_all
+struck-length struck_length
 struck-one struck_one
 take-used take_used
+toward-apart toward_apart
+toward-down toward_down
 toward-up toward_up
 turn-few turn_few
 turn-once turn_once
@@ -311,7 +333,7 @@ turnNumber turn_number
 turnThenShift turn_then_shift
 turned-is turned_is
 turned-joined turned_joined
-turned-lit turned_lit
+turned-lit turned_Lit
 turned-parts turned_parts
 turnedOf turned_of
 unturned-keep unturned_keep

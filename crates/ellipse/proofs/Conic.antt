@@ -36,18 +36,18 @@ foot a b x h = (omega arith, omega arith, omega (arith, scaled b x a h))
 turned : (a b u w : ℕ) → Inside a b u w → Inside b a w u
 turned a b u w i = (i.1, i.0, omega (arith, i.2))
 
-pub turned_lit : (a b x y : ℕ) → Lit (Inside a b) x y → Lit (Inside b a) y x
-turned_lit a b x y (inl v) = inr (turned a b _ _ v.0, λ i. v.1 (turned b a _ _ i))
-turned_lit a b x y (inr v) = inl (turned a b _ _ v.0, λ i. v.1 (turned b a _ _ i))
+pub turned_Lit : (a b x y : ℕ) → Lit (Inside a b) x y → Lit (Inside b a) y x
+turned_Lit a b x y (inl v) = inr (turned a b _ _ v.0, λ i. v.1 (turned b a _ _ i))
+turned_Lit a b x y (inr v) = inl (turned a b _ _ v.0, λ i. v.1 (turned b a _ _ i))
 
-full-turned : (a b : ℕ) → full a b ≡ full b a
-full-turned a b = omega arith
+full_turned : (a b : ℕ) → full a b ≡ full b a
+full_turned a b = omega arith
 
 -- H is V with the axes exchanged
-pub level-turned : (a b x y : ℕ) → level a b x y ≡ upright b a y x
+pub level_turned : (a b x y : ℕ) → level a b x y ≡ upright b a y x
 unfolding level upright
-level-turned a b x y =
-    ap (λ f. leb y b && ((eqb x 0 || leb (reach b a y (2 * x - 1)) f) && ltb f (reach b a y (2 * x + 1)))) (full-turned a b)
+level_turned a b x y =
+    ap (λ f. leb y b && ((eqb x 0 || leb (reach b a y (2 * x - 1)) f) && ltb f (reach b a y (2 * x + 1)))) (full_turned a b)
 
 -- with a ≥ 1 the test alone keeps w ≤ 2b
 narrow : (a b u w : ℕ) → 0 < a → a * a * (w * w) + b * b * (u * u) ≤ full a b → w ≤ 2 * b
@@ -120,10 +120,10 @@ pub lit : (a b x y : ℕ) → lighted a b x y ≡ true → Lit (Inside a b) x y
 lit a b x y e = elim (cases_eq a 0) [
   | inl z ↦ subst (λ q. Lit (Inside q b) x y) (sym z) (upward_says b x y (sym (lighted_at_0 a b x y z) ∙ e))
   | inr n ↦ elim (cases_eq b 0) [
-    | inl z ↦ subst (λ q. Lit (Inside a q) x y) (sym z) (turned_lit 0 a y x (upward_says a y x (sym (lighted_at_flat a b x y n z) ∙ e)))
+    | inl z ↦ subst (λ q. Lit (Inside a q) x y) (sym z) (turned_Lit 0 a y x (upward_says a y x (sym (lighted_at_flat a b x y n z) ∙ e)))
     | inr m ↦ elim (or_cases (upright a b x y) _ (sym (lighted_at_round a b x y n m) ∙ e)) [
       | inl u ↦ inl (upright_says a b x y (omega arith) u)
-      | inr l ↦ turned_lit b a y x (inl (upright_says b a y x (omega arith) (sym (level-turned a b x y) ∙ l)))
+      | inr l ↦ turned_Lit b a y x (inl (upright_says b a y x (omega arith) (sym (level_turned a b x y) ∙ l)))
     ]
   ]
 ]
@@ -133,11 +133,11 @@ pub lights : (a b x y : ℕ) → Lit (Inside a b) x y → lighted a b x y ≡ tr
 lights a b x y l = elim (cases_eq a 0) [
   | inl z ↦ lighted_at_0 a b x y z ∙ upward_from b x y (subst (λ q. Lit (Inside q b) x y) z l)
   | inr n ↦ elim (cases_eq b 0) [
-    | inl z ↦ lighted_at_flat a b x y n z ∙ upward_from a y x (turned_lit a 0 x y (subst (λ q. Lit (Inside a q) x y) z l))
+    | inl z ↦ lighted_at_flat a b x y n z ∙ upward_from a y x (turned_Lit a 0 x y (subst (λ q. Lit (Inside a q) x y) z l))
     | inr m ↦ lighted_at_round a b x y n m ∙ round l n m
   ]
 ]
   where
     round : Lit (Inside a b) x y → (a ≡ 0 → ⊥) → (b ≡ 0 → ⊥) → (upright a b x y || level a b x y) ≡ true
     round (inl v) n m = or_left _ _ (upright_from a b x y (omega arith) v)
-    round (inr v) n m = or_right _ _ (level-turned a b x y ∙ upright_from b a y x (omega arith) (turned a b _ _ v.0, λ i. v.1 (turned b a _ _ i)))
+    round (inr v) n m = or_right _ _ (level_turned a b x y ∙ upright_from b a y x (omega arith) (turned a b _ _ v.0, λ i. v.1 (turned b a _ _ i)))

@@ -4,13 +4,13 @@ use Rattle.std.proofs.lemmas.Bool.{cases_lt, both_ways}
 use Rattle.std.proofs.lemmas.Bool.Decides.{same_from_decides}
 use Rattle.ellipse.specs.Ellipses.{lighted}
 use Rattle.ellipse.proofs.Shape.{order, run, some, fill, low}
-use Rattle.ellipse.proofs.Conic.{Inside, down, dec, top, foot, turned_lit, lit, lights}
+use Rattle.ellipse.proofs.Conic.{Inside, down, dec, top, foot, turned_Lit, lit, lights}
 
 abbrev Lighted : ℕ → ℕ → ℕ → ℕ → Type 0
 Lighted a b x y = lighted a b x y ≡ true
 
 pub turn : (a b x y : ℕ) → Lighted a b x y → Lighted b a y x
-turn a b x y e = lights b a y x (turned_lit a b x y (lit a b x y e))
+turn a b x y e = lights b a y x (turned_Lit a b x y (lit a b x y e))
 
 pub symmetric : (a b x y : ℕ) → lighted a b x y ≡ lighted b a y x
 symmetric a b x y =

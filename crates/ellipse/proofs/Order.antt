@@ -65,21 +65,21 @@ columns_sound : (p : Test) (b x n : ℕ) → AllByRecursion (Passes p) (columns 
 columns_sound p b x zero = tt
 columns_sound p b x (suc n) = All-append (Passes p) (column p x (suc b)) _ (column_sound p x (suc b)) (columns_sound p b (suc x) n)
 
-column-whole : (p : Test) (x y k : ℕ) → y < k → p x y ≡ true → ContainsAt (column p x k) (x, y)
-column-whole p x y zero h e = absurd (omega arith)
-column-whole p x y (suc k) h e = elim (cases_eq k y) [
+column_whole : (p : Test) (x y k : ℕ) → y < k → p x y ≡ true → ContainsAt (column p x k) (x, y)
+column_whole p x y zero h e = absurd (omega arith)
+column_whole p x y (suc k) h e = elim (cases_eq k y) [
   | inl q ↦ cond_both (p x k) _ _ (λ l. ContainsAt l (x, y))
       (λ _. has_append_left ((x, k) ∷ []) (column p x k) (x, y) (subst (λ j. ContainsAt {X = Pair} ((x, k) ∷ []) (x, j)) q (has_push [] (x, k))))
       (λ f. absurd (both_ways _ f (subst (λ j. p x j ≡ true) (sym q) e)))
-  | inr n ↦ (let i = column-whole p x y k (omega arith) e in
+  | inr n ↦ (let i = column_whole p x y k (omega arith) e in
       cond_both (p x k) _ _ (λ l. ContainsAt l (x, y)) (λ _. has_append_right ((x, k) ∷ []) (column p x k) (x, y) i) (λ _. i))
 ]
 
-columns-whole : (p : Test) (b x y z n : ℕ) → z ≤ x → x < z + n → y ≤ b → p x y ≡ true → ContainsAt (columns p b z n) (x, y)
-columns-whole p b x y z zero h k l e = absurd (omega arith)
-columns-whole p b x y z (suc n) h k l e = elim (cases_eq x z) [
-  | inl q ↦ has_append_left (column p z (suc b)) _ (x, y) (subst (λ j. ContainsAt (column p j (suc b)) (x, y)) q (column-whole p x y (suc b) (omega arith) e))
-  | inr d ↦ has_append_right (column p z (suc b)) _ (x, y) (columns-whole p b x y (suc z) n (omega arith) (omega arith) l e)
+columns_whole : (p : Test) (b x y z n : ℕ) → z ≤ x → x < z + n → y ≤ b → p x y ≡ true → ContainsAt (columns p b z n) (x, y)
+columns_whole p b x y z zero h k l e = absurd (omega arith)
+columns_whole p b x y z (suc n) h k l e = elim (cases_eq x z) [
+  | inl q ↦ has_append_left (column p z (suc b)) _ (x, y) (subst (λ j. ContainsAt (column p j (suc b)) (x, y)) q (column_whole p x y (suc b) (omega arith) e))
+  | inr d ↦ has_append_right (column p z (suc b)) _ (x, y) (columns_whole p b x y (suc z) n (omega arith) (omega arith) l e)
 ]
 
 pub listed : (a b : ℕ) → Listed a b (pairs a b)
@@ -87,5 +87,5 @@ unfolding pairs Passes
 listed a b = record {
   ordered = columns-Ordered (lighted a b) b 0 (suc a);
   sound = columns_sound (lighted a b) b 0 (suc a);
-  whole = λ x y e. columns-whole (lighted a b) b x y 0 (suc a) (omega arith) (omega (arith, width a b x y e)) (height a b x y e) e;
+  whole = λ x y e. columns_whole (lighted a b) b x y 0 (suc a) (omega arith) (omega (arith, width a b x y e)) (height a b x y e) e;
 }

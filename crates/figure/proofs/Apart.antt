@@ -60,44 +60,44 @@ same-has : (d e : Dot) (ds : List Dot) → same d e ≡ true → has d ds ≡ ha
 same-has d e ds s = let o = same_orders d e s in ap (λ (p : Dot). has p ds) (ap (λ z. (z, d.1)) o.0 ∙ ap (λ z. (e.0, z)) o.1)
 
 -- nothing that was named is kept, and nothing is kept twice
-once-apart : (named ds : List Dot) (d : Dot) → has d named ≡ true → has d (once named ds) ≡ false
-once-apart named [] d h = refl
-once-apart named (e ∷ ds) d h = elim (cases_Bool (has e named)) [
-  | inl t ↦ ap (has d) (cond-true (has e named) (once named ds) (e ∷ once (e ∷ named) ds) t) ∙ once-apart named ds d h
+once_apart : (named ds : List Dot) (d : Dot) → has d named ≡ true → has d (once named ds) ≡ false
+once_apart named [] d h = refl
+once_apart named (e ∷ ds) d h = elim (cases_Bool (has e named)) [
+  | inl t ↦ ap (has d) (cond-true (has e named) (once named ds) (e ∷ once (e ∷ named) ds) t) ∙ once_apart named ds d h
   | inr n ↦ ap (has d) (cond-false (has e named) (once named ds) (e ∷ once (e ∷ named) ds) n) ∙ or_from (same d e) (has d (once (e ∷ named) ds)) (elim (cases_Bool (same d e)) [
     | inl s ↦ absurd (true≢false (sym h ∙ same-has d e named s ∙ n))
     | inr f ↦ f
-  ]) (once-apart (e ∷ named) ds d (or_right (same d e) (has d named) h))
+  ]) (once_apart (e ∷ named) ds d (or_right (same d e) (has d named) h))
 ]
 
 once-Distinct : (named ds : List Dot) → Distinct (once named ds)
 once-Distinct named [] = tt
 once-Distinct named (e ∷ ds) = elim (cases_Bool (has e named)) [
   | inl t ↦ subst Distinct (sym (cond-true (has e named) (once named ds) (e ∷ once (e ∷ named) ds) t)) (once-Distinct named ds)
-  | inr n ↦ subst Distinct (sym (cond-false (has e named) (once named ds) (e ∷ once (e ∷ named) ds) n)) (once-apart (e ∷ named) ds e (or_left (same e e) (has e named) (orders_same e e refl refl)), once-Distinct (e ∷ named) ds)
+  | inr n ↦ subst Distinct (sym (cond-false (has e named) (once named ds) (e ∷ once (e ∷ named) ds) n)) (once_apart (e ∷ named) ds e (or_left (same e e) (has e named) (orders_same e e refl refl)), once-Distinct (e ∷ named) ds)
 ]
 
 has-append : (d : Dot) (xs ys : List Dot) → has d xs ≡ false → has d ys ≡ false → has d (xs ++ ys) ≡ false
 has-append d [] ys p q = q
 has-append d (x ∷ xs) ys p q = let o = or_parts (same d x) (has d xs) p in or_from (same d x) (has d (xs ++ ys)) o.0 (has-append d xs ys o.1 q)
 
-pub distinct_append : (xs ys : List Dot) → Distinct xs → Distinct ys → ((d : Dot) → has d xs ≡ true → has d ys ≡ false) → Distinct (xs ++ ys)
-distinct_append [] ys p q r = q
-distinct_append (x ∷ xs) ys p q r = (has-append x xs ys p.0 (r x (or_left (same x x) (has x xs) (orders_same x x refl refl))), distinct_append xs ys p.1 q (λ d h. r d (or_right (same d x) (has d xs) h)))
+pub Distinct-append : (xs ys : List Dot) → Distinct xs → Distinct ys → ((d : Dot) → has d xs ≡ true → has d ys ≡ false) → Distinct (xs ++ ys)
+Distinct-append [] ys p q r = q
+Distinct-append (x ∷ xs) ys p q r = (has-append x xs ys p.0 (r x (or_left (same x x) (has x xs) (orders_same x x refl refl))), Distinct-append xs ys p.1 q (λ d h. r d (or_right (same d x) (has d xs) h)))
 
-before_apart : (p q : ℕ × ℕ) → Before p q → p ≡ q → ⊥
-before_apart p q h e = let x = ap (λ (r : ℕ × ℕ). r.0) e in let y = ap (λ (r : ℕ × ℕ). r.1) e in elim h [ inl l ↦ omega arith | inr r ↦ (let m = r.1 in omega arith) ]
+Before_apart : (p q : ℕ × ℕ) → Before p q → p ≡ q → ⊥
+Before_apart p q h e = let x = ap (λ (r : ℕ × ℕ). r.0) e in let y = ap (λ (r : ℕ × ℕ). r.1) e in elim h [ inl l ↦ omega arith | inr r ↦ (let m = r.1 in omega arith) ]
 
 not_later : (c d : Dot) (p : ℕ × ℕ) (ps : List (ℕ × ℕ)) → pair_of c d ≡ p → AllByRecursion (Before p) ps → has d (pair_dots c ps) ≡ false
 not_later c d p [] e o = refl
 not_later c d p (q ∷ qs) e o = has-append d (once [] (corners c q)) (pair_dots c qs) (elim (cases_Bool (has d (once [] (corners c q)))) [
-  | inl t ↦ absurd (before_apart p q o.0 (sym e ∙ corner_pair c d q.0 q.1 (once_sub [] (corners c q) d t)))
+  | inl t ↦ absurd (Before_apart p q o.0 (sym e ∙ corner_pair c d q.0 q.1 (once_sub [] (corners c q) d t)))
   | inr f ↦ f
 ]) (not_later c d p qs e o.1)
 
 pairs-Distinct : (c : Dot) (ps : List (ℕ × ℕ)) → Ordered ps → Distinct (pair_dots c ps)
 pairs-Distinct c [] o = tt
-pairs-Distinct c (p ∷ ps) o = distinct_append (once [] (corners c p)) (pair_dots c ps) (once-Distinct [] (corners c p)) (pairs-Distinct c ps o.1) (λ d h. not_later c d p ps (corner_pair c d p.0 p.1 (once_sub [] (corners c p) d h)) o.0)
+pairs-Distinct c (p ∷ ps) o = Distinct-append (once [] (corners c p)) (pair_dots c ps) (once-Distinct [] (corners c p)) (pairs-Distinct c ps o.1) (λ d h. not_later c d p ps (corner_pair c d p.0 p.1 (once_sub [] (corners c p) d h)) o.0)
 
 pub outline_once : (c : Dot) (a b : ℕ) → Distinct (outline_dots c a b)
 unfolding outline_dots

@@ -28,9 +28,9 @@ pub toward_up : (a b : ℤ) (k : ℕ) (r : ℤ) → le_z a b ≡ true → r ≡ 
 unfolding toward
 toward_up a b k r t e = e ∙ sym (cond-true (le_z a b) (a +ℤ pos k) (a -ℤ pos k) t)
 
-pub toward-down : (a b : ℤ) (k : ℕ) (r : ℤ) → le_z a b ≡ false → r ≡ a -ℤ pos k → r ≡ toward a b k
+pub toward_down : (a b : ℤ) (k : ℕ) (r : ℤ) → le_z a b ≡ false → r ≡ a -ℤ pos k → r ≡ toward a b k
 unfolding toward
-toward-down a b k r t e = e ∙ sym (cond-false (le_z a b) (a +ℤ pos k) (a -ℤ pos k) t)
+toward_down a b k r t e = e ∙ sym (cond-false (le_z a b) (a +ℤ pos k) (a -ℤ pos k) t)
 
 pub made_wide : (wide tall k r : ℕ) → tall ≤ wide → r ≡ across wide tall k → (k, r) ≡ steps_made wide tall k
 unfolding steps_made

@@ -11,7 +11,7 @@ use Rattle.figure.specs.Corners.{corner_dots, corners_from}
 use Rattle.figure.specs.Outlines.{corners, once, outline_dots}
 
 differ : (p q : Dot) → (p.0 ≡ q.0 → p.1 ≡ q.1 → ⊥) → same p q ≡ false
-differ p q no-match = elim (cases_Bool (same p q)) [ inl t ↦ (let e = same_orders p q t in absurd (no-match e.0 e.1)) | inr f ↦ f ]
+differ p q no_match = elim (cases_Bool (same p q)) [ inl t ↦ (let e = same_orders p q t in absurd (no_match e.0 e.1)) | inr f ↦ f ]
 
 module _ (c : Dot) (x y : ℕ) where
   abbrev ne : Dot

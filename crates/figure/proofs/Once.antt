@@ -9,9 +9,9 @@ use Rattle.plate.specs.Windows.{same_orders}
 use Rattle.figure.specs.Drawing.{has, Distinct}
 use Rattle.figure.specs.Lines.{gap, across, toward, steps_made, line_dot, line_dots, dots_from, longer}
 
-toward-apart : (a b : ℤ) (k j : ℕ) → k < j → toward a b k ≡ toward a b j → ⊥
+toward_apart : (a b : ℤ) (k j : ℕ) → k < j → toward a b k ≡ toward a b j → ⊥
 unfolding toward
-toward-apart a b k j h e = elim (cases_Bool (le_z a b)) [
+toward_apart a b k j h e = elim (cases_Bool (le_z a b)) [
   | inl t ↦ (let d : a +ℤ pos k ≡ a +ℤ pos j = sym (cond-true (le_z a b) (a +ℤ pos k) (a -ℤ pos k) t) ∙ e ∙ cond-true (le_z a b) (a +ℤ pos j) (a -ℤ pos j) t in omega (arith, ints))
   | inr f ↦ (let d : a -ℤ pos k ≡ a -ℤ pos j = sym (cond-false (le_z a b) (a +ℤ pos k) (a -ℤ pos k) f) ∙ e ∙ cond-false (le_z a b) (a +ℤ pos j) (a -ℤ pos j) f in omega (arith, ints))
 ]
@@ -31,8 +31,8 @@ steps_apart p q k j h = elim (cases_Bool (same (line_dot p q k) (line_dot p q j)
       let tall = gap p.1 q.1 in
       let e = same_orders (line_dot p q k) (line_dot p q j) t in
       elim (cases_Bool (leb tall wide)) [
-        | inl l ↦ toward-apart p.0 q.0 k j h (ap (toward p.0 q.0) (sym ((made_along wide tall k).0 l)) ∙ e.0 ∙ ap (toward p.0 q.0) ((made_along wide tall j).0 l))
-        | inr f ↦ toward-apart p.1 q.1 k j h (ap (toward p.1 q.1) (sym ((made_along wide tall k).1 f)) ∙ e.1 ∙ ap (toward p.1 q.1) ((made_along wide tall j).1 f))
+        | inl l ↦ toward_apart p.0 q.0 k j h (ap (toward p.0 q.0) (sym ((made_along wide tall k).0 l)) ∙ e.0 ∙ ap (toward p.0 q.0) ((made_along wide tall j).0 l))
+        | inr f ↦ toward_apart p.1 q.1 k j h (ap (toward p.1 q.1) (sym ((made_along wide tall k).1 f)) ∙ e.1 ∙ ap (toward p.1 q.1) ((made_along wide tall j).1 f))
       ])
   | inr f ↦ f
 ]
@@ -42,10 +42,10 @@ module _ (dot : ℕ → Dot) (apart : (k j : ℕ) → k < j → same (dot k) (do
   has_later k j zero h = refl
   has_later k j (suc n) h = or_from (same (dot k) (dot j)) (has (dot k) (dots_from dot (suc j) n)) (apart k j h) (has_later k (suc j) n (omega arith))
 
-  distinct_from : (k n : ℕ) → Distinct (dots_from dot k n)
-  distinct_from k zero = tt
-  distinct_from k (suc n) = (has_later k (suc k) n (omega arith), distinct_from (suc k) n)
+  Distinct_from : (k n : ℕ) → Distinct (dots_from dot k n)
+  Distinct_from k zero = tt
+  Distinct_from k (suc n) = (has_later k (suc k) n (omega arith), Distinct_from (suc k) n)
 
 pub line_once : (p q : Dot) → Distinct (line_dots p q)
 unfolding line_dots
-line_once p q = distinct_from (line_dot p q) (steps_apart p q) 0 (longer p q + 1)
+line_once p q = Distinct_from (line_dot p q) (steps_apart p q) 0 (longer p q + 1)

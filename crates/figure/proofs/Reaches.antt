@@ -44,14 +44,14 @@ seeks_next a b k r i = record {
   inward = λ h u j. row_falls a b r u (height b k) (k + 1 - b) (omega arith) i.lit j.lit;
 }
 
-has-reach : (a b y : ℕ) → y ≤ b → (u : ℕ) × IsReach a b y u
-has-reach a b y h = let s = row_reach a b y h in (s.0, record { lit = s.1; last = s.2 })
+has_reach : (a b y : ℕ) → y ≤ b → (u : ℕ) × IsReach a b y u
+has_reach a b y h = let s = row_reach a b y h in (s.0, record { lit = s.1; last = s.2 })
 
 pub seeks_outward : (a b k r : ℕ) → SeeksFrom a b k r → k ≤ b → (u : ℕ) × IsReach a b (b - k) u × (r ≤ u)
-seeks_outward a b k r s h = let t = has-reach a b (b - k) (omega arith) in (t.0, t.1, s.outward h t.0 t.1)
+seeks_outward a b k r s h = let t = has_reach a b (b - k) (omega arith) in (t.0, t.1, s.outward h t.0 t.1)
 
 pub seeks_inward : (a b k r : ℕ) → SeeksFrom a b k r → k ≤ 2 * b → b < k → (u : ℕ) × IsReach a b (k - b) u × (u ≤ r)
-seeks_inward a b k r s h l = let t = has-reach a b (k - b) (omega arith) in (t.0, t.1, s.inward l t.0 t.1)
+seeks_inward a b k r s h l = let t = has_reach a b (k - b) (omega arith) in (t.0, t.1, s.inward l t.0 t.1)
 
 -- a pair is filled just when it is not past the reach
 covered_to : (a b y x n j : ℕ) → j < n → lighted a b (x + j) y ≡ true → covered a b y x n ≡ true

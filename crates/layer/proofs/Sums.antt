@@ -96,7 +96,7 @@ module _ (a b : ℤ) (l : Layer) (is : shift a b ≡ l) where
       apart z d back r p q e h =
           let v = within_orders z p in
           let w = within_orders d q in
-          let r-is = h (fits_handable (z +ℤ back) (omega (arith, ints))) in
+          let r_is = h (fits_handable (z +ℤ back) (omega (arith, ints))) in
           omega (arith, ints)
 
 -- where a turn sends a dot, number by number

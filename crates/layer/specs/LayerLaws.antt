@@ -13,8 +13,8 @@ use Rattle.plate.specs.Windows.{both, In, inside_orders, orders_inside, same_ord
 use Rattle.layer.specs.Layers.{shift_by}
 use Rattle.layer.specs.Views.{whole, overlap, clipped, unturned, pulled, view}
 
-same-inside : (v w : Window) (p q : Dot) → (In v p → In w q) → (In w q → In v p) → inside v p ≡ inside w q
-same-inside v w p q f g = both (inside v p) (inside w q) (λ t. orders_inside w q (f (inside_orders v p t))) (λ t. orders_inside v p (g (inside_orders w q t)))
+same_inside : (v w : Window) (p q : Dot) → (In v p → In w q) → (In w q → In v p) → inside v p ≡ inside w q
+same_inside v w p q f g = both (inside v p) (inside w q) (λ t. orders_inside w q (f (inside_orders v p t))) (λ t. orders_inside v p (g (inside_orders w q t)))
 
 inside-overlap : (v w : Window) (p : Dot) → inside (overlap v w) p ≡ (inside v p && inside w p)
 inside-overlap v w p =
@@ -47,8 +47,8 @@ turn_orders Anti w p = omega (arith, ints)
 
 inside-pulled : (l : Layer) (w : Window) (p : Dot) → inside (pulled l w) p ≡ (admits l p && inside w (step l p))
 inside-pulled (mask m) w p = inside-overlap m w p
-inside-pulled (shift dx dy) w p = same-inside (pulled (shift dx dy) w) w p (p.0 +ℤ dx, p.1 +ℤ dy) (λ h. omega (arith, ints)) (λ h. omega (arith, ints))
-inside-pulled (turn k) w p = let t = turn_orders k w p in same-inside (unturned k w) w p (turned k p) t.0 t.1
+inside-pulled (shift dx dy) w p = same_inside (pulled (shift dx dy) w) w p (p.0 +ℤ dx, p.1 +ℤ dy) (λ h. omega (arith, ints)) (λ h. omega (arith, ints))
+inside-pulled (turn k) w p = let t = turn_orders k w p in same_inside (unturned k w) w p (turned k p) t.0 t.1
 
 -- the window above a layer holds the world's dots that the layer admits and whose places are in the window below
 pub inside-view : (l : Layer) (w : Window) (p : Dot) → inside (view l w) p ≡ (world p && (admits l p && inside w (step l p)))
@@ -68,14 +68,14 @@ turn_once AcrossY p q = (λ a b. omega (arith, ints), λ a b. omega (arith, ints
 turn_once Swap p q = (λ a b. omega (arith, ints), λ a b. omega (arith, ints))
 turn_once Anti p q = (λ a b. omega (arith, ints), λ a b. omega (arith, ints))
 
-step-once : (l : Layer) (p q : Dot) → ((step l p).0 ≡ (step l q).0 → (step l p).1 ≡ (step l q).1 → (p.0 ≡ q.0) × (p.1 ≡ q.1)) × (p.0 ≡ q.0 → p.1 ≡ q.1 → ((step l p).0 ≡ (step l q).0) × ((step l p).1 ≡ (step l q).1))
-step-once (mask m) p q = (λ a b. (a, b), λ a b. (a, b))
-step-once (shift dx dy) p q = (λ a b. omega (arith, ints), λ a b. omega (arith, ints))
-step-once (turn k) p q = turn_once k p q
+step_once : (l : Layer) (p q : Dot) → ((step l p).0 ≡ (step l q).0 → (step l p).1 ≡ (step l q).1 → (p.0 ≡ q.0) × (p.1 ≡ q.1)) × (p.0 ≡ q.0 → p.1 ≡ q.1 → ((step l p).0 ≡ (step l q).0) × ((step l p).1 ≡ (step l q).1))
+step_once (mask m) p q = (λ a b. (a, b), λ a b. (a, b))
+step_once (shift dx dy) p q = (λ a b. omega (arith, ints), λ a b. omega (arith, ints))
+step_once (turn k) p q = turn_once k p q
 
 pub step_same : (l : Layer) (p q : Dot) → same (step l p) (step l q) ≡ same p q
 step_same l p q =
-    let once = step-once l p q in
+    let once = step_once l p q in
     both (same (step l p) (step l q)) (same p q)
     (λ t. let e = same_orders (step l p) (step l q) t in let d = once.0 e.0 e.1 in orders_same p q d.0 d.1)
     (λ t. let e = same_orders p q t in let d = once.1 e.0 e.1 in orders_same (step l p) (step l q) d.0 d.1)

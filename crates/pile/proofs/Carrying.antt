@@ -16,9 +16,9 @@ unfolding handable
 handable_orders z low high = and_from (le_z (negsuc 2147483647) z) (le_z z (pos 2147483647)) (le_true (negsuc 2147483647) z low) (le_true z (pos 2147483647) high)
 
 -- a dot that is not too far from a dot of the world has numbers that can be handed to a call
-handable-near : (p q : Dot) → world q ≡ true → apart p q ≤ 2147450880 → handable_dot p ≡ true
+handable_near : (p q : Dot) → world q ≡ true → apart p q ≤ 2147450880 → handable_dot p ≡ true
 unfolding handable_dot apart
-handable-near p q h d =
+handable_near p q h d =
     let o = world_orders q h in
     and_from (handable p.0) (handable p.1) (handable_orders p.0 (omega (arith, ints)) (omega (arith, ints))) (handable_orders p.1 (omega (arith, ints)) (omega (arith, ints)))
 
@@ -38,7 +38,7 @@ carried_beside [] w p q f s d = refl
 carried_beside (l ∷ ls) w p q f s d =
     let below = (and_parts (admits l q) (shows ls w (step l q)) (and_parts (world q) (admits l q && shows ls w (step l q)) s).1).1 in
     let e = step-apart l p q in
-    carried_on l ls p (handable-near (step l p) (step l q) (shows-world ls w (step l q) f below) (omega arith)) (carried_beside ls w (step l p) (step l q) f below (omega arith))
+    carried_on l ls p (handable_near (step l p) (step l q) (shows-world ls w (step l q) f below) (omega arith)) (carried_beside ls w (step l p) (step l q) f below (omega arith))
 
 world-apart : (p q : Dot) → world p ≡ true → world q ≡ true → apart p q ≤ 65534
 unfolding apart
@@ -82,7 +82,7 @@ carried_far (l ∷ ls) k p h d a =
     let s = step-origin l h.0 in
     let t = apart_by (step l p) (step l origin) origin in
     let b : apart (step l p) origin ≤ 32767 * suc k = omega arith in
-    carried_on l ls p (handable-near (step l p) origin world-origin (omega arith)) (carried_far ls (suc k) (step l p) h.1 (omega arith) b)
+    carried_on l ls p (handable_near (step l p) origin world-origin (omega arith)) (carried_far ls (suc k) (step l p) h.1 (omega arith) b)
 
 pub carry_deep : (ls : List Layer) (p : Dot) → Near ls → world p ≡ true → length ls ≤ 65000 → carried ls p ≡ Some (place ls p)
 unfolding apart

@@ -133,9 +133,9 @@ along_back : (a : Bool) (c z : ℤ) → along a c (signed a (z -ℤ c)) ≡ z
 along_back true c z = omega (arith, ints)
 along_back false c z = omega (arith, ints)
 
-along-apart : (a : Bool) (c y z : ℤ) → nat_abs (along a c y -ℤ along a c z) ≡ nat_abs (y -ℤ z)
-along-apart true c y z = omega (arith, ints)
-along-apart false c y z = omega (arith, ints)
+along_apart : (a : Bool) (c y z : ℤ) → nat_abs (along a c y -ℤ along a c z) ≡ nat_abs (y -ℤ z)
+along_apart true c y z = omega (arith, ints)
+along_apart false c y z = omega (arith, ints)
 
 abbrev Spans : ℤ → ℤ → ℤ → Type 0
 Spans x z y = (x ≤ℤ z) × (z ≤ℤ y)
@@ -146,13 +146,13 @@ Spans_orders x z y t = let a = and_parts (le_z x z) (le_z z y) t in omega (arith
 orders_Spans : (x z y : ℤ) → Spans x z y → (le_z x z && le_z z y) ≡ true
 orders_Spans x z y h = and_from (le_z x z) (le_z z y) (le_true x z h.0) (le_true z y h.1)
 
-Spans-same : (x z y u v w : ℤ) → (Spans x z y → Spans u v w) → (Spans u v w → Spans x z y) → (le_z x z && le_z z y) ≡ (le_z u v && le_z v w)
-Spans-same x z y u v w f g = both (le_z x z && le_z z y) (le_z u v && le_z v w) (λ t. orders_Spans u v w (f (Spans_orders x z y t))) (λ t. orders_Spans x z y (g (Spans_orders u v w t)))
+Spans_same : (x z y u v w : ℤ) → (Spans x z y → Spans u v w) → (Spans u v w → Spans x z y) → (le_z x z && le_z z y) ≡ (le_z u v && le_z v w)
+Spans_same x z y u v w f g = both (le_z x z && le_z z y) (le_z u v && le_z v w) (λ t. orders_Spans u v w (f (Spans_orders x z y t))) (λ t. orders_Spans x z y (g (Spans_orders u v w t)))
 
 -- what lies between two numbers has its place between their places
 along_spans : (a : Bool) (c x z y : ℤ) → le_z x y ≡ true → (le_z (int_min (along a c x) (along a c y)) (along a c z) && le_z (along a c z) (int_max (along a c x) (along a c y))) ≡ (le_z x z && le_z z y)
-along_spans true c x z y h = Spans-same (int_min (along true c x) (along true c y)) (along true c z) (int_max (along true c x) (along true c y)) x z y (λ i. omega (arith, ints, clamps)) (λ i. omega (arith, ints, clamps))
-along_spans false c x z y h = Spans-same (int_min (along false c x) (along false c y)) (along false c z) (int_max (along false c x) (along false c y)) x z y (λ i. omega (arith, ints, clamps)) (λ i. omega (arith, ints, clamps))
+along_spans true c x z y h = Spans_same (int_min (along true c x) (along true c y)) (along true c z) (int_max (along true c x) (along true c y)) x z y (λ i. omega (arith, ints, clamps)) (λ i. omega (arith, ints, clamps))
+along_spans false c x z y h = Spans_same (int_min (along false c x) (along false c y)) (along false c z) (int_max (along false c x) (along false c y)) x z y (λ i. omega (arith, ints, clamps)) (λ i. omega (arith, ints, clamps))
 
 along_wide : (a : Bool) (c y z : ℤ) → nat_abs (int_max (along a c y) (along a c z) -ℤ int_min (along a c y) (along a c z)) ≡ nat_abs (z -ℤ y)
 along_wide true c y z = omega (arith, ints, clamps)
@@ -176,8 +176,8 @@ laid_onto false a b c q = pair (along_back a c.0 q.0) (along_back b c.1 q.1)
 
 laid-apart : (e a b : Bool) (c p q : Dot) → apart (laid e a b c p) (laid e a b c q) ≡ apart p q
 unfolding apart
-laid-apart true a b c p q = let h = along-apart a c.0 p.1 q.1 in let k = along-apart b c.1 p.0 q.0 in omega arith
-laid-apart false a b c p q = let h = along-apart a c.0 p.0 q.0 in let k = along-apart b c.1 p.1 q.1 in omega arith
+laid-apart true a b c p q = let h = along_apart a c.0 p.1 q.1 in let k = along_apart b c.1 p.0 q.0 in omega arith
+laid-apart false a b c p q = let h = along_apart a c.0 p.0 q.0 in let k = along_apart b c.1 p.1 q.1 in omega arith
 
 and_comm : (x y : Bool) → (x && y) ≡ (y && x)
 and_comm true true = refl

@@ -18,12 +18,12 @@ pub length-marks : (lit : Dot → Bool) (n : ℕ) (x y : ℤ) → length (marks 
 length-marks lit zero x y = refl
 length-marks lit (suc n) x y = ap suc (length-marks lit n (x +ℤ pos 1) y)
 
-same-marks : (f g : Dot → Bool) (n : ℕ) (x y : ℤ) → ((k : ℕ) → k < n → f (x +ℤ pos k, y) ≡ g (x +ℤ pos k, y)) → marks f n x y ≡ marks g n x y
-same-marks f g zero x y h = refl
-same-marks f g (suc n) x y h =
+same_marks : (f g : Dot → Bool) (n : ℕ) (x y : ℤ) → ((k : ℕ) → k < n → f (x +ℤ pos k, y) ≡ g (x +ℤ pos k, y)) → marks f n x y ≡ marks g n x y
+same_marks f g zero x y h = refl
+same_marks f g (suc n) x y h =
     let a : x +ℤ pos 0 ≡ x = omega (arith, ints) in
     let e : f (x, y) ≡ g (x, y) = ap (λ z. f (z, y)) (sym a) ∙ h 0 (omega arith) ∙ ap (λ z. g (z, y)) a in
-    let r = same-marks f g n (x +ℤ pos 1) y (λ k l. let b : (x +ℤ pos 1) +ℤ pos k ≡ x +ℤ pos (k + 1) = omega (arith, ints) in ap (λ z. f (z, y)) b ∙ h (k + 1) (omega arith) ∙ ap (λ z. g (z, y)) (sym b)) in
+    let r = same_marks f g n (x +ℤ pos 1) y (λ k l. let b : (x +ℤ pos 1) +ℤ pos k ≡ x +ℤ pos (k + 1) = omega (arith, ints) in ap (λ z. f (z, y)) b ∙ h (k + 1) (omega arith) ∙ ap (λ z. g (z, y)) (sym b)) in
     ap (λ b. mark b ∷ marks f n (x +ℤ pos 1) y) e ∙ ap (λ ms. mark (g (x, y)) ∷ ms) r
 
 upward : (z : ℤ) → pos 0 ≤ℤ z → pos (nat_abs z) ≡ z
@@ -41,9 +41,9 @@ pub length_row : (w : Window) (lit : Dot → Bool) (y : ℤ) → length (row_lin
 length_row w lit y = length-append (marks lit (breadth w) w.left y) (10 ∷ []) ∙ ap (λ n. n + 1) (length-marks lit (breadth w) w.left y)
 
 -- what questions leave as it was
-same-inside : {S : Type 0} {window : S → Window} {lit : S → Dot → Bool} {shots : S → ℕ} {strikes : S → List Strike → S → Type 0} {layers : S → List Layer} {floor : S → Meaning}
+same_inside : {S : Type 0} {window : S → Window} {lit : S → Dot → Bool} {shots : S → ℕ} {strikes : S → List Strike → S → Type 0} {layers : S → List Layer} {floor : S → Meaning}
     → Laws window lit shots strikes layers floor → (s t : S) (p : Dot) → strikes s [] t → inside (window t) p ≡ inside (window s) p
-same-inside laws s t p h = ap (λ w. inside w p) (laws.after s t [] h).window
+same_inside laws s t p h = ap (λ w. inside w p) (laws.after s t [] h).window
 
 same_lit : {S : Type 0} {window : S → Window} {lit : S → Dot → Bool} {shots : S → ℕ} {strikes : S → List Strike → S → Type 0} {layers : S → List Layer} {floor : S → Meaning}
     → Laws window lit shots strikes layers floor → (s t : S) (p : Dot) → strikes s [] t → inside (window s) p ≡ true → lit t p ≡ lit s p
@@ -58,7 +58,7 @@ pub turn : {S : Type 0} {window : S → Window} {lit : S → Dot → Bool} {shot
     → (z' ≡ x +ℤ pos (i + 1)) × strikes s [] u × (sets (set m i v) (i + 1) (marks (lit s) (n - (i + 1)) z' y) ≡ sets l 0 (marks (lit s) n x y))
 turn {window = window} {lit = lit} laws s t u x z z' y i n v l m h dots e d a b told before =
     let inner : inside (window s) (z, y) ≡ true = ap (λ q. inside (window s) (q, y)) e ∙ dots i h in
-    let seen : v ≡ mark (lit s (z, y)) = told (same-inside laws s t (z, y) a ∙ inner) ∙ ap mark (same_lit laws s t (z, y) a inner) in
+    let seen : v ≡ mark (lit s (z, y)) = told (same_inside laws s t (z, y) a ∙ inner) ∙ ap mark (same_lit laws s t (z, y) a inner) in
     let step : sets (set m i (mark (lit s (z, y)))) (suc i) (marks (lit s) (n - (i + 1)) (z +ℤ pos 1) y) ≡ sets l 0 (marks (lit s) n x y) = sym (ap (λ ms. sets m i ms) (marks_more (lit s) n i z y h)) ∙ before in
     (omega (arith, ints), laws.join s t u [] [] a b, (let j = add-one i in cc))
 
@@ -106,7 +106,7 @@ pub row_asked : {S : Type 0} {window : S → Window} {lit : S → Dot → Bool} 
     → Laws window lit shots strikes layers floor → (s t : S) (x y y' : ℤ) (n : ℕ) → strikes s [] t → has_row (window s) y ≡ true → n ≡ breadth (window s) → x ≡ (window s).left → y' ≡ y
     → (k : ℕ) → k < n → inside (window t) (x +ℤ pos k, y') ≡ true
 row_asked {window = window} laws s t x y y' n a r e d f k h =
-    same-inside laws s t (x +ℤ pos k, y') a ∙ ap (λ z. inside (window s) (z +ℤ pos k, y')) d ∙ ap (λ z. inside (window s) ((window s).left +ℤ pos k, z)) f ∙ row_dots (window s) y r k (omega arith)
+    same_inside laws s t (x +ℤ pos k, y') a ∙ ap (λ z. inside (window s) (z +ℤ pos k, y')) d ∙ ap (λ z. inside (window s) ((window s).left +ℤ pos k, z)) f ∙ row_dots (window s) y r k (omega arith)
 
 pub row_told : {S : Type 0} {window : S → Window} {lit : S → Dot → Bool} {shots : S → ℕ} {strikes : S → List Strike → S → Type 0} {layers : S → List Layer} {floor : S → Meaning}
     → Laws window lit shots strikes layers floor → (s t : S) (x y y' : ℤ) (n : ℕ) → strikes s [] t → has_row (window s) y ≡ true → n ≡ breadth (window s) → x ≡ (window s).left → y' ≡ y
@@ -114,4 +114,4 @@ pub row_told : {S : Type 0} {window : S → Window} {lit : S → Dot → Bool} {
 row_told {window = window} {lit = lit} laws s t x y y' n a r e d f =
     ap (λ z. marks (lit t) n z y') d
     ∙ ap (λ z. marks (lit t) n (window s).left z) f
-    ∙ same-marks (lit t) (lit s) n (window s).left y (λ k h. same_lit laws s t ((window s).left +ℤ pos k, y) a (row_dots (window s) y r k (omega arith)))
+    ∙ same_marks (lit t) (lit s) n (window s).left y (λ k h. same_lit laws s t ((window s).left +ℤ pos k, y) a (row_dots (window s) y r k (omega arith)))

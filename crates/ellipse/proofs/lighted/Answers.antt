@@ -1,7 +1,7 @@
 use Rattle.std.proofs.Common.{arith}
 use Rattle.std.proofs.lemmas.Bool.Decides.{nat_tests}
 use Rattle.ellipse.specs.Ellipses.{lighted}
-use Rattle.ellipse.proofs.Conic.{level-turned}
+use Rattle.ellipse.proofs.Conic.{level_turned}
 use Rattle.ellipse.proofs.lighted.Goals as goal
 
 pub returns-then-x-eq0 : goal.returns-then-x-eq0
@@ -26,4 +26,4 @@ returns-then-upright c = grind (arith, nat_tests)
 
 pub returns-else-upright : goal.returns-else-upright
 unfolding lighted
-returns-else-upright c = grind (arith, nat_tests, level-turned)
+returns-else-upright c = grind (arith, nat_tests, level_turned)

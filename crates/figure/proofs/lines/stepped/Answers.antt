@@ -1,7 +1,7 @@
 use Rattle.std.proofs.Common.{arith}
 use Rattle.std.proofs.lemmas.Int.{ints, to_z-of_z}
 use Rattle.plate.specs.Windows.{within_orders}
-use Rattle.figure.proofs.Crossings.{toward_up, toward-down}
+use Rattle.figure.proofs.Crossings.{toward_up, toward_down}
 use Rattle.figure.proofs.lines.stepped.Goals as goal
 
 pub overflow_add-result : goal.overflow_add-result
@@ -24,4 +24,4 @@ returns-else-from-to c =
     let n = c.requires.1 in
     let f = c.ranges.from in
     let t = c.ranges.to in
-    toward-down c.args.from c.args.to c.args.steps _ (simp to_z-of_z at c.if-from-to.false) (omega (arith, ints))
+    toward_down c.args.from c.args.to c.args.steps _ (simp to_z-of_z at c.if-from-to.false) (omega (arith, ints))
