@@ -1,11 +1,10 @@
 -- What a plate means, how strikes change it, and what a pile of masks, shifts and turns shows of its lowest plate.
-use Rattle.std.specs.Prelude.{◌≡◌, ℕ, ◌+◌, Bool, true, cond, ◌&&◌, List, [], ◌∷◌, ◌++◌, map, length, ℤ, ◌+ℤ◌, neg_ℤ, Some, None, Option, ◌==◌, int_le}
+use Rattle.std.specs.Prelude.{◌≡◌, ℕ, ◌+◌, Bool, true, cond, ◌&&◌, List, [], ◌∷◌, ◌++◌, map, length, ℤ, ◌+ℤ◌, neg_ℤ, Some, None, Option, ◌==◌, int_le, Result, Ok, Err}
 use Rattle.plate.specs.declared.Ink.{Ink}
 use Rattle.plate.specs.declared.Window.{Window}
 use Rattle.plate.specs.declared.Facing.{Facing}
 use Rattle.plate.specs.declared.Facing.TheVariants.{Same, Quarter, Half, Back, AcrossX, AcrossY, Swap, Anti}
 use Rattle.plate.specs.World.{Dot, world, inside, canonical, inked}
-use Rattle.plate.specs.Answers.{Answer, done, refused}
 
 -- a strike: which dot, and with which ink
 abbrev pub Strike : Type 0
@@ -22,8 +21,8 @@ abbrev pub asked : Window → (Dot → Bool) → Dot → Option Bool
 asked w lit p = cond (inside w p) (Some (lit p)) None
 
 -- what a strike answers: 20 outside the window, next 21 without shots
-abbrev pub strike_answer : Window → ℕ → Dot → Answer Unit
-strike_answer w shots p = cond (inside w p) (cond (shots == 0) (refused 21) (done tt)) (refused 20)
+abbrev pub strike_answer : Window → ℕ → Dot → Result Unit ℕ
+strike_answer w shots p = cond (inside w p) (cond (shots == 0) (Err 21) (Ok tt)) (Err 20)
 
 -- the strikes that an order to strike makes: itself, or none where it is refused
 abbrev pub accepted : Window → ℕ → Strike → List Strike

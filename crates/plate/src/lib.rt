@@ -1,17 +1,22 @@
 // Dots, windows, inks and refusals, and the trait of everything that can be asked and struck.
 // Every plate promises the rules of `Plate`: what it tells, what a strike changes, and the exact history of its strikes.
 // Read on in specs/World.antt, specs/Answers.antt and specs/Plates.antt, and in docs/PLATES.md.
-#![tactic(auto)]
+#![tactic(auto, unfolding(crate::specs::World::within, crate::specs::World::world, crate::specs::World::inside, crate::specs::World::bounded, crate::specs::World::canonical))]
 
 ghost use Rattle.std.specs.Prelude.{◌≡◌, ℕ, Bool, ◌&&◌, List, [], if◌then◌else◌, int_le};
 ghost use Rattle.plate.specs.declared.Window.{Window};
 ghost use Rattle.plate.specs.World.{Dot, within, world, inside, empty as no_dots, canonical as canonical_of, bounded, window_of, inked};
-ghost use Rattle.plate.specs.Answers.{told, done, refused, strike_number, window_number};
+ghost use Rattle.plate.specs.Answers.{told, strike_number, window_number};
 ghost use Rattle.plate.specs.Piles.{facing_number, exchanges as exchanges_axes, negates_first, negates_second, facing_by, joined_turn, facing_of, carried};
 ghost use Rattle.plate.specs.Plates.{Strike, Meaning, Layer, Laws, asked, strike_answer, accepted};
 
+use thiserror::Error;
+
+// A dot by its numbers: to the right, and downward.
+pub type Dot = (i32, i32);
+
 // An ink makes a dot lit, makes it unlit, or changes it to the other.
-#[derive(Clone, Copy)]
+#[derive(Clone, Copy, Debug, PartialEq, Eq)]
 pub enum Ink {
     Light,
     Clear,
@@ -32,7 +37,7 @@ impl Ink {
 }
 
 // The eight ways in which a turn lays the plane on itself, in the order of their numbers 0 to 7.
-#[derive(Clone, Copy)]
+#[derive(Clone, Copy, Debug, PartialEq, Eq)]
 pub enum Facing {
     Same,
     Quarter,
@@ -45,22 +50,6 @@ pub enum Facing {
 }
 
 impl Facing {
-    // From 0 to 7.
-    pub fn number(self) -> u8
-        ensures { result ≡ facing_number self }
-    {
-        match self {
-            Facing::Same => 0,
-            Facing::Quarter => 1,
-            Facing::Half => 2,
-            Facing::Back => 3,
-            Facing::AcrossX => 4,
-            Facing::AcrossY => 5,
-            Facing::Swap => 6,
-            Facing::Anti => 7,
-        }
-    }
-
     // Whether this turn exchanges the axes.
     pub fn exchanges(self) -> bool
         ensures { result ≡ exchanges_axes self }
@@ -130,7 +119,27 @@ impl Facing {
     }
 }
 
+// The number of a turn, from 0 to 7.
+impl From<Facing> for u8 {
+    ghost from_gives = { λ facing number. number ≡ facing_number facing };
+
+    fn from(facing: Facing) -> u8 {
+        match facing {
+            Facing::Same => 0,
+            Facing::Quarter => 1,
+            Facing::Half => 2,
+            Facing::Back => 3,
+            Facing::AcrossX => 4,
+            Facing::AcrossY => 5,
+            Facing::Swap => 6,
+            Facing::Anti => 7,
+        }
+    }
+}
+
 // A cause of refusal, known to workshops by its number.
+// Not `From` into `u8`: of a bound by it generic code knows a relation, and a printed refusal's clause needs the number.
+// The numbers stay a `match` in each `impl`, since two causes may have one number.
 pub trait Refusal {
     ghost number: { Self → ℕ };
 
@@ -139,9 +148,11 @@ pub trait Refusal {
 }
 
 // Why a strike was refused.
-#[derive(Clone, Copy)]
+#[derive(Clone, Copy, Debug, PartialEq, Eq, Error)]
 pub enum StrikeRefusal {
+    #[error("the dot lies outside the window")]
     Outside,
+    #[error("the plate has no shots left")]
     NoShots,
 }
 
@@ -157,8 +168,9 @@ impl Refusal for StrikeRefusal {
 }
 
 // Why a window's bounds were refused.
-#[derive(Clone, Copy)]
+#[derive(Clone, Copy, Debug, PartialEq, Eq, Error)]
 pub enum WindowRefusal {
+    #[error("a bound lies outside the world")]
     BeyondWorld,
 }
 
@@ -175,24 +187,24 @@ impl Refusal for WindowRefusal {
 fn is_within(z: i32) -> bool
     ensures { result ≡ within z }
 {
-    z >= -32767 && z <= 32767
+    (-32767..=32767).contains(&z)
 }
 
 // Whether a dot is one of the world.
-pub fn in_world(x: i32, y: i32) -> bool
-    ensures { result ≡ world (x, y) }
+pub fn in_world(at: Dot) -> bool
+    ensures { result ≡ world at }
 {
-    is_within(x) && is_within(y)
+    is_within(at.0) && is_within(at.1)
 }
 
 fn spans(low: i32, z: i32, high: i32) -> bool
     ensures { result ≡ (int_le low z && int_le z high) }
 {
-    low <= z && z <= high
+    (low..=high).contains(&z)
 }
 
 // A rectangle of dots; its four bounds belong to it.
-#[derive(Clone, Copy)]
+#[derive(Clone, Copy, Debug, PartialEq, Eq)]
 pub struct Window {
     pub left: i32,
     pub top: i32,
@@ -216,12 +228,12 @@ impl Window {
     fn is_bounded(self) -> bool
         ensures { result ≡ bounded self }
     {
-        in_world(self.left, self.top) && in_world(self.right, self.bottom)
+        in_world((self.left, self.top)) && in_world((self.right, self.bottom))
     }
 
     // Whether these bounds may be given: each is a number of the world.
     pub fn check(self) -> Result<(), WindowRefusal>
-        ensures { told window_number result ≡ (if bounded self then done tt else refused 1) }
+        ensures { told window_number result ≡ (if bounded self then Ok tt else Err 1) }
     {
         if self.is_bounded() {
             Ok(())
@@ -252,10 +264,10 @@ impl Window {
         }
     }
 
-    pub fn contains(self, x: i32, y: i32) -> bool
-        ensures { result ≡ inside self (x, y) }
+    pub fn contains(self, at: Dot) -> bool
+        ensures { result ≡ inside self at }
     {
-        spans(self.left, x, self.right) && spans(self.top, y, self.bottom)
+        spans(self.left, at.0, self.right) && spans(self.top, at.1, self.bottom)
     }
 }
 
@@ -289,17 +301,17 @@ pub trait Plate {
         ensures same { strikes self.old [] self.new };
 
     // Lit or unlit inside the window, and nothing outside it.
-    fn ask(&mut self, x: i32, y: i32) -> Option<bool>
-        ensures value { result ≡ asked (window self.old) (lit self.old) (x, y) }
+    fn ask(&mut self, at: Dot) -> Option<bool>
+        ensures value { result ≡ asked (window self.old) (lit self.old) at }
         ensures same { strikes self.old [] self.new };
 
     // Inks a dot of the window, for one shot.
-    fn strike(&mut self, x: i32, y: i32, ink: Ink) -> Result<(), StrikeRefusal>
-        ensures answer { told strike_number result ≡ strike_answer (window self.old) (shots self.old) (x, y) }
-        ensures history { strikes self.old (accepted (window self.old) (shots self.old) ((x, y), ink)) self.new };
+    fn strike(&mut self, at: Dot, ink: Ink) -> Result<(), StrikeRefusal>
+        ensures answer { told strike_number result ≡ strike_answer (window self.old) (shots self.old) at }
+        ensures history { strikes self.old (accepted (window self.old) (shots self.old) (at, ink)) self.new };
 
     // The place of a dot on the lowest plate, unless a number on the way can be handed to no call.
-    fn carry(&mut self, at: (i32, i32)) -> Option<(i32, i32)>
+    fn carry(&mut self, at: Dot) -> Option<Dot>
         ensures value { result ≡ carried (layers self.old) at }
         ensures same { strikes self.old [] self.new };
 
