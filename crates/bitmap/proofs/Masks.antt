@@ -3,7 +3,7 @@ use Rattle.std.proofs.Common.{◌≡◌, ℕ, zero, suc, ◌-◌, ◌*◌, ◌%�
 use lib.Bits.{bit_and, bit_or, bit_xor}
 use Rattle.std.proofs.lemmas.Bool.Decides.{Decides-eqb, Decides-and, Decides-below_and}
 use Rattle.plate.specs.declared.Ink.TheVariants.{Light, Clear, Flip}
-use Rattle.bitmap.specs.Bitmaps.{bit, inked_byte}
+use Rattle.bitmap.specs.Bits.{bit, inked_byte}
 
 -- the mask with bit k alone, as the code makes it
 abbrev pub mask : ℕ → ℕ

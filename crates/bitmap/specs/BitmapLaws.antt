@@ -12,7 +12,8 @@ use Rattle.plate.specs.Plates.{Strike, Laws, After, Framed, AllIn, same, struck,
 use Rattle.plate.specs.Windows.{le_true, orders_world, inside_orders, inside-empty, same_orders, orders_same, Framed-empty}
 use Rattle.plate.specs.Bare.{lit_after_at, AllIn-append, bare_laws}
 use Rattle.bitmap.specs.declared.Bitmap.{Bitmap}
-use Rattle.bitmap.specs.Bitmaps.{row_bytes, side, sized, bitmap_window, byte_of, bit_of, bit, worth, inked_byte, bitmap_lit, bitmap_meaning, burn, burnt, BitmapStrikes, SparesStay}
+use Rattle.bitmap.specs.Bits.{row_bytes, byte_of, bit_of, bit, worth, inked_byte}
+use Rattle.bitmap.specs.Bitmaps.{side, sized, bitmap_window, bitmap_lit, bitmap_meaning, burn, burnt, BitmapStrikes, SparesStay}
 
 -- a bit as a number
 abbrev digit : Bool → ℕ

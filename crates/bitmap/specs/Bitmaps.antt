@@ -1,21 +1,17 @@
 -- A bitmap keeps its dots as bits of the caller's bytes.
-use Rattle.std.specs.Prelude.{◌≡◌, ℕ, ◌+◌, ◌-◌, ◌*◌, ◌/◌, ◌%◌, ◌^◌, ◌<◌, ◌≤◌, Bool, true, false, cond, ◌&&◌, List, [], ◌∷◌, length, pos, Some, None, Option, ◌==◌, nat_le, slice_index, slice_set, unsigned_abs}
-use Rattle.plate.specs.declared.Ink.{Ink}
+use Rattle.std.specs.Prelude.{◌≡◌, ℕ, ◌+◌, ◌-◌, ◌*◌, ◌<◌, ◌≤◌, Bool, true, false, cond, ◌&&◌, List, [], ◌∷◌, length, pos, Some, None, Option, nat_le, slice_index, slice_set}
 use Rattle.plate.specs.declared.Window.{Window}
-use Rattle.plate.specs.World.{Dot, inside, empty, inked}
+use Rattle.plate.specs.World.{Dot, inside, empty}
 use Rattle.plate.specs.Plates.{Strike, Meaning, AllIn, meaning}
 use Rattle.bitmap.specs.declared.Bitmap.{Bitmap}
 use Rattle.bitmap.specs.declared.BitmapRefusal.{BitmapRefusal}
-use Rattle.bitmap.specs.declared.Place.{Place}
+use Rattle.bitmap.specs.declared.places.Place.{Place}
+use Rattle.bitmap.specs.Bits.{row_bytes, byte_of, bit_of, bit, inked_byte}
 use Rattle.bitmap.specs.declared.BitmapRefusal.TheVariants.{Size}
 
 -- the number by which workshops know a refused size
 abbrev pub bitmap_number : BitmapRefusal → ℕ
 bitmap_number Size = 3
-
--- how many bytes a row takes: eight dots to a byte, and the last byte may have spare bits
-abbrev pub row_bytes : ℕ → ℕ
-row_bytes width = (width + 7) / 8
 
 -- a width or a height within limits
 abbrev pub side : ℕ → Bool
@@ -28,26 +24,6 @@ sized width height bytes = (side width && side height) && nat_le (height * row_b
 -- the window of a size: no dots where the size is refused
 abbrev pub bitmap_window : ℕ → ℕ → ℕ → Window
 bitmap_window width height bytes = cond (sized width height bytes) (record { left = pos 0; top = pos 0; right = pos (width - 1); bottom = pos (height - 1) }) empty
-
--- which byte keeps a dot: row by row from the top, each row from the left
-unfoldable pub byte_of : ℕ → Dot → ℕ
-byte_of width p = unsigned_abs p.1 * row_bytes width + unsigned_abs p.0 / 8
-
--- which bit of that byte, bit 0 being the lowest: a row's dots go from high bits to low ones
-unfoldable pub bit_of : Dot → ℕ
-bit_of p = 7 - unsigned_abs p.0 % 8
-
--- whether bit k of a byte is one
-unfoldable pub bit : ℕ → ℕ → Bool
-bit byte k = byte / 2 ^ k % 2 == 1
-
--- what bit k is worth in its byte
-abbrev pub worth : ℕ → Bool → ℕ
-worth k one = cond one (2 ^ k) 0
-
--- the byte whose bit k took an ink, with every other bit as it was
-unfoldable pub inked_byte : Ink → ℕ → ℕ → ℕ
-inked_byte ink byte k = byte - worth k (bit byte k) + worth k (inked ink (bit byte k))
 
 -- a dot is lit where its bit is one
 abbrev pub bitmap_lit : ℕ → List ℕ → Dot → Bool
@@ -67,7 +43,7 @@ new_bitmap width height shots bytes = meaning (bitmap_window width height (lengt
 
 -- the place of a dot of the window, and none outside it
 abbrev pub Placed : Option Place → Bitmap → Dot → Type 0
-Placed (Some at) s p = (inside (bitmap_meaning s).window p ≡ true) × (at.index ≡ byte_of s.width p) × (at.index < length s.bytes.now) × (at.shift ≡ bit_of p) × (at.shift < 8)
+Placed (Some at) s p = (inside (bitmap_meaning s).window p ≡ true) × (at.index ≡ byte_of s.width p) × (at.index < length s.bytes.now) × (at.shift ≡ bit_of p)
 Placed None s p = inside (bitmap_meaning s).window p ≡ false
 
 -- the bytes after one strike, which inks one bit

@@ -1,18 +1,23 @@
 // A plate that keeps its dots as bits of the caller's bytes, eight dots to a byte.
 // It promises the rules of every plate, and which bytes stand after any calls: spare bits and bytes past the last row never change.
 // Read on in specs/Bitmaps.antt and docs/PLATES.md.
-#![tactic(auto)]
+#![tactic(auto, unfolding(crate::specs::Bits::bit, crate::specs::Bits::bit_of, crate::specs::Bits::byte_of, crate::specs::Bitmaps::sized))]
 
 ghost use Rattle.std.specs.Prelude.{◌≡◌, ◌-◌, ◌<◌, ◌≤◌, [], length, pos, if◌then◌else◌};
-ghost use Rattle.plate.specs.Answers.{told, done, refused};
-ghost use Rattle.bitmap.specs.Bitmaps.{bitmap_number, row_bytes, side, sized, byte_of, bit_of, bit, inked_byte, bitmap_meaning, new_bitmap, Placed, BitmapStrikes, SparesStay};
+ghost use Rattle.plate.specs.Answers.{told};
+ghost use Rattle.bitmap.specs.Bitmaps.{bitmap_number, side, sized, bitmap_meaning, new_bitmap, Placed, BitmapStrikes, SparesStay};
 ghost use Rattle.bitmap.specs.BitmapLaws.{bitmap_laws};
 
-use plate::{Facing, Ink, Plate, Refusal, StrikeRefusal, Window};
+mod places;
+
+use places::{Place, row_bytes};
+use plate::{Dot, Facing, Ink, Plate, Refusal, StrikeRefusal, Window};
+use thiserror::Error;
 
 // Why a bitmap's size was refused.
-#[derive(Clone, Copy)]
+#[derive(Clone, Copy, Debug, PartialEq, Eq, Error)]
 pub enum BitmapRefusal {
+    #[error("a side is out of limits, or the bytes are too few")]
     Size,
 }
 
@@ -29,15 +34,10 @@ impl Refusal for BitmapRefusal {
 fn is_side(n: u32) -> bool
     ensures { result ≡ side n }
 {
-    1 <= n && n <= 8192
+    (1..=8192).contains(&n)
 }
 
-fn row_bytes(width: u32) -> usize
-    ensures { result ≡ row_bytes width }
-{
-    (width as usize + 7) / 8
-}
-
+// Width and height stay two numbers: each use but this one needs just one of them, and every public call would have to build a type of the two.
 fn is_sized(width: u32, height: u32, bytes: usize) -> bool
     ensures { result ≡ sized width height bytes }
 {
@@ -52,47 +52,6 @@ fn last(n: u32) -> i32
     n as i32 - 1
 }
 
-// Whether bit k is one.
-fn is_one(byte: u8, k: u32) -> bool
-    requires { k < 8 }
-    ensures { result ≡ bit byte k }
-{
-    (byte >> k) & 1 == 1
-}
-
-// The byte once its bit k has taken an ink.
-fn ink_bit(byte: u8, k: u32, ink: Ink) -> u8
-    requires { k < 8 }
-    ensures { result ≡ inked_byte ink byte k }
-{
-    match ink {
-        Ink::Light => byte | (1 << k),
-        Ink::Clear => byte & !(1 << k),
-        Ink::Flip => byte ^ (1 << k),
-    }
-}
-
-// Where a dot is kept: the index of its byte, and how far its bit is shifted.
-#[derive(Clone, Copy)]
-struct Place {
-    index: usize,
-    shift: u32,
-}
-
-impl Place {
-    // The numbers of a dot that a bitmap shows are never negative.
-    fn of(width: u32, x: i32, y: i32) -> Place
-        ensures index { result.index ≡ byte_of width (x, y) }
-        ensures shift { result.shift ≡ bit_of (x, y) }
-    {
-        let (column, row) = (x.unsigned_abs(), y.unsigned_abs());
-        Place {
-            index: row as usize * row_bytes(width) + column as usize / 8,
-            shift: 7 - column % 8,
-        }
-    }
-}
-
 #[derive(Drop)]
 pub struct Bitmap<'a> {
     bytes: &'a mut [u8],
@@ -104,7 +63,7 @@ pub struct Bitmap<'a> {
 impl<'a> Bitmap<'a> {
     // Whether a bitmap of this size may be made on these bytes.
     pub fn check(width: u32, height: u32, bytes: &[u8]) -> Result<(), BitmapRefusal>
-        ensures { told bitmap_number result ≡ (if sized width height (length bytes.now) then done tt else refused 3) }
+        ensures { told bitmap_number result ≡ (if sized width height (length bytes.now) then Ok tt else Err 3) }
     {
         if is_sized(width, height, bytes.len()) {
             Ok(())
@@ -149,14 +108,12 @@ impl<'a> Bitmap<'a> {
     }
 
     // Where a dot of the window is kept; nowhere outside it.
-    fn place(&self, x: i32, y: i32) -> Option<Place>
-        ensures { Placed result self.now (x, y) }
+    fn place(&self, at: Dot) -> Option<Place>
+        ensures { Placed result self.now at }
     {
-        if self.shown().contains(x, y) {
-            Some(Place::of(self.width, x, y))
-        } else {
-            None
-        }
+        self.shown()
+            .contains(at)
+            .then_some(Place::of(self.width, at))
     }
 }
 
@@ -183,26 +140,25 @@ impl Plate for Bitmap<'_> {
         self.shots
     }
 
-    fn ask(&mut self, x: i32, y: i32) -> Option<bool> {
-        match self.place(x, y) {
-            Some(at) => Some(is_one(self.bytes[at.index], at.shift)),
-            None => None,
-        }
+    fn ask(&mut self, at: Dot) -> Option<bool> {
+        let place = self.place(at)?;
+        Some(place.is_one(self.bytes[place.index]))
     }
 
-    fn strike(&mut self, x: i32, y: i32, ink: Ink) -> Result<(), StrikeRefusal> {
-        let Some(at) = self.place(x, y) else {
+    fn strike(&mut self, at: Dot, ink: Ink) -> Result<(), StrikeRefusal> {
+        let Some(place) = self.place(at) else {
             return Err(StrikeRefusal::Outside);
         };
         if self.shots == 0 {
             return Err(StrikeRefusal::NoShots);
         }
-        self.bytes[at.index] = ink_bit(self.bytes[at.index], at.shift, ink);
+        self.bytes[place.index] = place.inked(self.bytes[place.index], ink);
         self.shots -= 1;
         Ok(())
     }
 
-    fn carry(&mut self, at: (i32, i32)) -> Option<(i32, i32)> {
+    // The same two answers as of every bare plate: a default in the trait would have to hold of layers too.
+    fn carry(&mut self, at: Dot) -> Option<Dot> {
         Some(at)
     }
 

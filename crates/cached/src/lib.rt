@@ -10,7 +10,7 @@ ghost use Rattle.plate.specs.Bare.{ByRules, rule_laws};
 ghost use Rattle.cached.specs.Holding.{frame, cell_of, lit_at, cached_meaning};
 ghost use Rattle.cached.specs.HoldingLaws.{Framed-frame};
 
-use plate::{Facing, Ink, Plate, StrikeRefusal, Window};
+use plate::{Dot, Facing, Ink, Plate, StrikeRefusal, Window};
 
 fn shown() -> Window
     ensures { result ≡ frame }
@@ -24,11 +24,12 @@ fn shown() -> Window
 }
 
 // Which cell keeps a dot of the window; none keeps a dot outside it.
-fn cell_of(x: i32, y: i32) -> Option<u8>
-    ensures { result ≡ (if inside frame (x, y) then Some (cell_of (x, y)) else None) }
+#[tactic(auto, using(crate::proofs::Cells::shown), unfolding(crate::specs::Holding::cell_of))]
+fn cell_of(at: Dot) -> Option<u8>
+    ensures { result ≡ (if inside frame at then Some (cell_of at) else None) }
 {
-    if shown().contains(x, y) {
-        let (column, row) = (x.unsigned_abs(), y.unsigned_abs());
+    if shown().contains(at) {
+        let (column, row) = (at.0.unsigned_abs(), at.1.unsigned_abs());
         Some((row * 16 + column) as u8)
     } else {
         None
@@ -95,14 +96,14 @@ impl Plate for Cached {
         self.shots
     }
 
-    fn ask(&mut self, x: i32, y: i32) -> Option<bool> {
-        let cell = cell_of(x, y)?;
+    fn ask(&mut self, at: Dot) -> Option<bool> {
+        let cell = cell_of(at)?;
         self.hold(cell);
         Some(self.lit)
     }
 
-    fn strike(&mut self, x: i32, y: i32, ink: Ink) -> Result<(), StrikeRefusal> {
-        let Some(cell) = cell_of(x, y) else {
+    fn strike(&mut self, at: Dot, ink: Ink) -> Result<(), StrikeRefusal> {
+        let Some(cell) = cell_of(at) else {
             return Err(StrikeRefusal::Outside);
         };
         if self.shots == 0 {
@@ -114,7 +115,8 @@ impl Plate for Cached {
         Ok(())
     }
 
-    fn carry(&mut self, at: (i32, i32)) -> Option<(i32, i32)> {
+    // The same two answers as of every bare plate: a default in the trait would have to hold of layers too.
+    fn carry(&mut self, at: Dot) -> Option<Dot> {
         Some(at)
     }
 

@@ -11,10 +11,10 @@ places records = min 65536 (length records)
 
 -- the strike that a record keeps, and the record that keeps a strike
 abbrev pub kept : Record → Strike
-kept r = ((r.x, r.y), r.ink)
+kept r = (r.at, r.ink)
 
 abbrev pub record_of : Strike → Record
-record_of k = record { x = k.0.0; y = k.0.1; ink = k.1 }
+record_of k = record { at = k.0; ink = k.1 }
 
 -- a dot starts unlit, and is as its records in order leave it
 abbrev pub lit_by : List Record → Dot → Bool

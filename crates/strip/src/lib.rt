@@ -1,7 +1,7 @@
 // A plate that keeps every strike, in order, as a record in the caller's list.
 // It promises the rules of every plate, and which records stand in the list after any calls.
 // Read on in specs/Strips.antt and docs/PLATES.md.
-#![tactic(auto)]
+#![tactic(auto, using(std::proofs::lemmas::Int::ints), unfolding(plate::specs::Plates::same))]
 
 ghost use Rattle.std.specs.Prelude.{◌≡◌, ℕ, ◌-◌, min, false, []};
 ghost use Rattle.plate.specs.World.{inside, window_of};
@@ -9,22 +9,21 @@ ghost use Rattle.plate.specs.Plates.{struck, meaning};
 ghost use Rattle.strip.specs.Strips.{places, kept, lit_by, strip_meaning, StripStrikes};
 ghost use Rattle.strip.specs.StripLaws.{strip_laws};
 
-use plate::{Facing, Ink, Plate, StrikeRefusal, Window};
+use plate::{Dot, Facing, Ink, Plate, StrikeRefusal, Window};
 
 // One strike as it is kept.
-#[derive(Clone, Copy)]
+#[derive(Clone, Copy, Debug, PartialEq, Eq)]
 pub struct Record {
-    pub x: i32,
-    pub y: i32,
+    pub at: Dot,
     pub ink: Ink,
 }
 
 impl Record {
     // Whether this strike leaves a dot lit, by what it was before.
-    fn leaves(self, lit: bool, x: i32, y: i32) -> bool
-        ensures { result ≡ struck (kept self) (λ q. lit) (x, y) }
+    fn leaves(self, lit: bool, at: Dot) -> bool
+        ensures { result ≡ struck (kept self) (λ q. lit) at }
     {
-        if self.x == x && self.y == y {
+        if self.at == at {
             self.ink.over(lit)
         } else {
             lit
@@ -36,6 +35,7 @@ impl Record {
 pub struct Strip<'a> {
     bounds: Window,
     records: &'a mut [Record],
+    // how many are written, from the first on: the list is lent, and the head has no heap for a growing one
     used: usize,
 }
 
@@ -53,29 +53,29 @@ impl<'a> Strip<'a> {
         }
     }
 
-    fn shows(&self, x: i32, y: i32) -> bool
-        ensures { result ≡ inside (window_of self.now.bounds) (x, y) }
+    fn shows(&self, at: Dot) -> bool
+        ensures { result ≡ inside (window_of self.now.bounds) at }
     {
         let window = self.bounds.made();
-        window.contains(x, y)
+        window.contains(at)
+    }
+
+    // How many of the places that the strip may use are unused.
+    fn unused(&self) -> u32
+        ensures { result ≡ (strip_meaning self.now).shots }
+    {
+        self.records.len().min(65536).saturating_sub(self.used) as u32
     }
 }
 
-// How many of the places that a strip may use are unused.
-fn unused(places: usize, used: usize) -> u32
-    ensures { result ≡ min 65536 places - used }
-{
-    places.min(65536).saturating_sub(used) as u32
-}
-
-// Whether these records leave a dot lit.
-fn lit_by(records: &mut [Record], x: i32, y: i32) -> bool
-    ensures value { result ≡ lit_by records.old (x, y) }
+// Whether these records leave a dot lit. A `for` over records taken for writing, which changes nothing, is the form wanted here (docs/DECISIONS.md).
+fn lit_by(records: &mut [Record], at: Dot) -> bool
+    ensures value { result ≡ lit_by records.old at }
     ensures same { records.new ≡ records.old }
 {
     let mut lit = false;
     for record in records.iter() {
-        lit = record.leaves(lit, x, y);
+        lit = record.leaves(lit, at);
     }
     lit
 }
@@ -100,31 +100,31 @@ impl Plate for Strip<'_> {
     }
 
     fn shots(&mut self) -> u32 {
-        unused(self.records.len(), self.used)
+        self.unused()
     }
 
-    fn ask(&mut self, x: i32, y: i32) -> Option<bool> {
-        if self.shows(x, y) {
-            let used = self.used.min(self.records.len());
-            Some(lit_by(&mut self.records[0..used], x, y))
-        } else {
-            None
+    fn ask(&mut self, at: Dot) -> Option<bool> {
+        if !self.shows(at) {
+            return None;
         }
+        let used = self.used.min(self.records.len());
+        Some(lit_by(&mut self.records[0..used], at))
     }
 
-    fn strike(&mut self, x: i32, y: i32, ink: Ink) -> Result<(), StrikeRefusal> {
-        if !self.shows(x, y) {
+    fn strike(&mut self, at: Dot, ink: Ink) -> Result<(), StrikeRefusal> {
+        if !self.shows(at) {
             return Err(StrikeRefusal::Outside);
         }
-        if unused(self.records.len(), self.used) == 0 {
+        if self.unused() == 0 {
             return Err(StrikeRefusal::NoShots);
         }
-        self.records[self.used] = Record { x, y, ink };
+        self.records[self.used] = Record { at, ink };
         self.used += 1;
         Ok(())
     }
 
-    fn carry(&mut self, at: (i32, i32)) -> Option<(i32, i32)> {
+    // The same two answers as of every bare plate: a default in the trait would have to hold of layers too.
+    fn carry(&mut self, at: Dot) -> Option<Dot> {
         Some(at)
     }
 
