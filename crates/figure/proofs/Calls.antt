@@ -1,21 +1,20 @@
 -- A figure's call: count, compare, strike.
-use Rattle.std.proofs.Common.{◌≡◌, ℕ, zero, suc, ◌+◌, ◌*◌, ◌^◌, ◌<◌, ◌≤◌, Bool, true, false, cond, ◌&&◌, leb, List, [], ◌∷◌, length, take, ℤ, pos, ◌+ℤ◌, neg_ℤ, nat_abs, None, Option, sym, refl, ap, ◌∙◌, subst, inl, inr, arith}
+use Rattle.std.proofs.Common.{◌≡◌, ℕ, zero, suc, ◌+◌, ◌*◌, ◌^◌, ◌<◌, ◌≤◌, Bool, true, false, cond, leb, List, [], ◌∷◌, length, take, ℤ, pos, ◌+ℤ◌, neg_ℤ, nat_abs, None, Option, sym, refl, ap, ◌∙◌, subst, inl, inr, arith, Result, Ok, Err}
 use Rattle.std.proofs.lemmas.List.{take_all, length-append}
 use Rattle.std.proofs.lemmas.Nat.{mul-le}
-use Rattle.std.proofs.lemmas.Bool.{cases_Bool, cond-true, le-leb, lt-leb, and_from}
+use Rattle.std.proofs.lemmas.Bool.{cases_Bool, le-leb, lt-leb}
 use Rattle.plate.specs.declared.Ink.{Ink}
 use Rattle.plate.specs.declared.Window.{Window}
 use Rattle.plate.specs.World.{Dot, inside, world}
-use Rattle.plate.specs.Answers.{Answer, done, refused}
 use Rattle.plate.specs.Plates.{Strike, Layer, Meaning, Laws}
 use Rattle.plate.specs.Windows.{world_parts}
 use Rattle.figure.specs.Drawing.{visible, has, inked_with, figure_answer, figure_strikes}
 use Rattle.figure.specs.declared.shapes.Shape.{Shape}
 use Rattle.figure.specs.declared.shapes.Shape.TheVariants.{Line, Outline, Filled}
-use Rattle.figure.specs.Lines.{longer, line_dot, line_dots, dots_from, line_cause}
+use Rattle.figure.specs.Lines.{longer, line_dot, line_dots, dots_from}
 use Rattle.figure.specs.Outlines.{corners, once, outline_dots}
 use Rattle.figure.specs.Fills.{filled_pair, fill_row, fill_rows, filled_dots}
-use Rattle.figure.specs.Shapes.{Sound, shape_dots}
+use Rattle.figure.specs.Shapes.{shape_dots}
 use Rattle.ellipse.specs.Ellipses.{lighted, column, columns, pairs}
 use Rattle.figure.proofs.Kept.{pair_dots}
 use Rattle.figure.proofs.Crossings.{gap_few}
@@ -94,17 +93,14 @@ filled_few w c a b f g =
     let m : (2 * b + 1) * (2 * a + 1) ≤ 8191 * 8191 = mul-le (2 * b + 1) (2 * a + 1) 8191 8191 (omega arith) (omega arith) in
     omega (arith, m)
 
-pub shape_few : (w : Window) (shape : Shape) → Sound shape → length (visible w (shape_dots shape)) < 2 ^ 32
-shape_few w (Line from to) s = line_few w from to s.0 s.1
-shape_few w (Outline c a b) s = outline_few w c a b s.1 s.2
-shape_few w (Filled c a b) s = filled_few w c a b s.1 s.2
-
-pub no_cause : (p q : Dot) → world p ≡ true → world q ≡ true → line_cause p q ≡ None
-no_cause p q f g = cond-true (world p && world q) None _ (and_from (world p) (world q) f g)
+pub shape_few : (w : Window) (shape : Shape) → length (visible w (shape_dots shape)) < 2 ^ 32
+shape_few w (Line line) = line_few w line.from.at line.to.at line.from.worldly line.to.worldly
+shape_few w (Outline centre axes) = outline_few w centre.at axes.ellipse.a axes.ellipse.b axes.narrow axes.low
+shape_few w (Filled centre axes) = filled_few w centre.at axes.ellipse.a axes.ellipse.b axes.narrow axes.low
 
 module _ {Q : Type 0} {window : Q → Window} {lit : Q → Dot → Bool} {shots : Q → ℕ} {strikes : Q → List Strike → Q → Type 0} {layers : Q → List Layer} {floor : Q → Meaning} (h : Laws window lit shots strikes layers floor) where
   -- what a call answered, and what the plate went through
-  pub record Called (s t : Q) (cause : Option ℕ) (dots : List Dot) (ink : Ink) (told : Answer ℕ) : Type 0 where
+  pub record Called (s t : Q) (cause : Option ℕ) (dots : List Dot) (ink : Ink) (told : Result ℕ ℕ) : Type 0 where
     pub answer : told ≡ figure_answer cause dots (window s) (shots s)
     pub history : strikes s (figure_strikes cause dots (window s) (shots s) ink) t
 
@@ -115,20 +111,20 @@ module _ {Q : Type 0} {window : Q → Window} {lit : Q → Dot → Bool} {shots 
     same_shots : shots s ≡ n
     same_shots = let a : shots s ≡ 0 + shots t = (h.after s t [] st).shots in omega arith
 
-    pub too_few : n < seen → Called s u cause dots ink (refused 22)
+    pub too_few : n < seen → Called s u cause dots ink (Err 22)
     too_few less =
         let e = same_shots in
         let l : leb (length (visible (window s) dots)) (shots s) ≡ false = lt-leb (length (visible (window s) dots)) (shots s) (omega arith) in
-        subst (λ o. Called s u o dots ink (refused 22)) (sym none) (record { answer = simp l; history = simp l still })
+        subst (λ o. Called s u o dots ink (Err 22)) (sym none) (record { answer = simp l; history = simp l still })
 
-    pub struck_all : (v : Q) → seen ≤ n → strikes u (inked_with ink (take (shots u) (visible (window u) dots))) v → Called s v cause dots ink (done seen)
+    pub struck_all : (v : Q) → seen ≤ n → strikes u (inked_with ink (take (shots u) (visible (window u) dots))) v → Called s v cause dots ink (Ok seen)
     struck_all v enough uv =
         let e = same_shots in
         let b : shots t ≡ 0 + shots u = (h.after t u [] tu).shots in
         let w : window u ≡ window s = (h.after s u [] still).window in
         let l : leb (length (visible (window s) dots)) (shots s) ≡ true = le-leb (length (visible (window s) dots)) (shots s) (omega arith) in
         let all : take (shots u) (visible (window u) dots) ≡ visible (window s) dots = ap (λ x. take (shots u) (visible x dots)) w ∙ take_all (shots u) (visible (window s) dots) (omega arith) in
-        subst (λ o. Called s v o dots ink (done seen)) (sym none) (record {
-          answer = simp l (ap done is);
+        subst (λ o. Called s v o dots ink (Ok seen)) (sym none) (record {
+          answer = simp l (ap Ok is);
           history = simp l (subst (λ zs. strikes s (inked_with ink zs) v) all (h.join s u v [] (inked_with ink (take (shots u) (visible (window u) dots))) still uv));
         })

@@ -1,5 +1,5 @@
 -- The dots of a pair: leaving out what was named before is the same as looking at x = 0 and y = 0.
-use Rattle.std.proofs.Common.{◌≡◌, ℕ, suc, ◌+◌, ◌-◌, ◌<◌, ◌≤◌, true, false, List, [], ◌∷◌, ◌++◌, pos, ◌+ℤ◌, ◌-ℤ◌, ap, ◌∙◌, inl, inr, arith}
+use Rattle.std.proofs.Common.{length, get_or, drop, drop-cons, ◌≡◌, ℕ, suc, ◌+◌, ◌<◌, true, false, List, [], ◌∷◌, ◌++◌, pos, ◌+ℤ◌, ◌-ℤ◌, ap, ◌∙◌, inl, inr, arith}
 use Rattle.std.specs.List.{flat_map}
 use Rattle.std.proofs.lemmas.Int.{ints}
 use Rattle.std.proofs.lemmas.Bool.{cases_Bool, cases_eq, eq-eqb, ne_eqb}
@@ -7,7 +7,8 @@ use Rattle.plate.specs.World.{Dot}
 use Rattle.plate.specs.Plates.{same}
 use Rattle.plate.specs.Windows.{same_orders, orders_same}
 use Rattle.ellipse.specs.Ellipses.{pairs}
-use Rattle.figure.specs.Corners.{corner_dots, corners_from}
+use Rattle.figure.specs.Corners.{corner_dots, corners_dots, all_corners}
+use Rattle.figure.specs.declared.outlines.Corner.{Corner}
 use Rattle.figure.specs.Outlines.{corners, once, outline_dots}
 
 differ : (p q : Dot) → (p.0 ≡ q.0 → p.1 ≡ q.1 → ⊥) → same p q ≡ false
@@ -26,7 +27,7 @@ module _ (c : Dot) (x y : ℕ) where
   abbrev se : Dot
   se = (c.0 +ℤ pos x, c.1 -ℤ pos y)
 
-  pub kept_once : once [] (corners c (x, y)) ≡ corners_from c (x, y) 0 4
+  pub kept_once : once [] (corners c (x, y)) ≡ corners_dots c (x, y) all_corners
   kept_once = elim (cases_eq x 0) [
     | inl x0 ↦ elim (cases_eq y 0) [
       | inl y0 ↦ (
@@ -66,15 +67,11 @@ module _ (c : Dot) (x y : ℕ) where
     ]
   ]
 
--- one sign more, and none
-pub next_sign : (c : Dot) (p : ℕ × ℕ) (s : ℕ) → s < 4 → corners_from c p s (4 - s) ≡ corner_dots c p s ++ corners_from c p (s + 1) (4 - (s + 1))
-next_sign c p s h =
-    let e : 4 - s ≡ suc (4 - (s + 1)) = omega arith in
-    let d : suc s ≡ s + 1 = omega arith in
-    ap (corners_from c p s) e ∙ ap (λ k. corner_dots c p s ++ corners_from c p k (4 - (s + 1))) d
-
-pub no_sign : (c : Dot) (p : ℕ × ℕ) (s : ℕ) → 4 ≤ s → corners_from c p s (4 - s) ≡ []
-no_sign c p s h = let e : 4 - s ≡ 0 = omega arith in ap (corners_from c p s) e
+-- one corner more
+pub next_corner : (c : Dot) (p : ℕ × ℕ) (ss : List Corner) (i : ℕ) (d : Corner) → i < length ss → corners_dots c p (drop i ss) ≡ corner_dots c p (get_or ss i d) ++ corners_dots c p (drop (i + 1) ss)
+next_corner c p ss i d h =
+    let e : suc i ≡ i + 1 = omega arith in
+    ap (corners_dots c p) (drop-cons ss i d h) ∙ ap (λ k. corner_dots c p (get_or ss i d) ++ corners_dots c p (drop k ss)) e
 
 -- the dots of pairs
 abbrev pub pair_dots : Dot → List (ℕ × ℕ) → List Dot
@@ -84,5 +81,5 @@ pub outline_pairs : (c : Dot) (a b : ℕ) (ps : List (ℕ × ℕ)) → ps ≡ pa
 unfolding outline_dots
 outline_pairs c a b ps e = ap (pair_dots c) e
 
-pub next_pair : (c : Dot) (x y : ℕ) (ps rest : List (ℕ × ℕ)) → ps ≡ (x, y) ∷ rest → pair_dots c ps ≡ corners_from c (x, y) 0 4 ++ pair_dots c rest
+pub next_pair : (c : Dot) (x y : ℕ) (ps rest : List (ℕ × ℕ)) → ps ≡ (x, y) ∷ rest → pair_dots c ps ≡ corners_dots c (x, y) all_corners ++ pair_dots c rest
 next_pair c x y ps rest e = ap (pair_dots c) e ∙ ap (λ ds. ds ++ pair_dots c rest) (kept_once c x y)

@@ -4,7 +4,7 @@ mod Walks
 mod Calls
 mod Once
 mod Kept
-mod Axes
 mod Apart
+mod Backward
 mod Reaches
 pub mod Totals

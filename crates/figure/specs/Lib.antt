@@ -4,8 +4,8 @@ pub mod VisitorLaws
 pub mod Lines
 pub mod Corners
 pub mod Outlines
-pub mod Axes
 pub mod Fills
 pub mod Reaches
 pub mod Shapes
 pub mod Figures
+pub mod Limits

@@ -4,7 +4,7 @@ ghost use Rattle.plate.specs.World.{Dot};
 ghost use Rattle.figure.specs.Visits.{VisitLaws, Counts, Inks};
 ghost use Rattle.figure.specs.VisitorLaws.{counter_laws, striker_laws};
 
-use plate::{Ink, Plate};
+use plate::{Dot, Ink, Plate};
 
 // What a walk hands each dot of a figure, in the figure's order.
 pub(crate) trait Visitor {
@@ -12,8 +12,8 @@ pub(crate) trait Visitor {
 
     ghost laws: { VisitLaws visits };
 
-    fn visit(&mut self, x: i32, y: i32)
-        ensures { visits self.old ((x, y) ∷ []) self.new };
+    fn visit(&mut self, at: Dot)
+        ensures { visits self.old (at ∷ []) self.new };
 }
 
 // Counts the visible dots.
@@ -28,8 +28,8 @@ impl<P: Plate> Visitor for Counter<'_, P> {
 
     ghost laws = { counter_laws (λ s. s.plate) P.Plate.laws (λ s. s.seen) };
 
-    fn visit(&mut self, x: i32, y: i32) {
-        let shown = self.plate.ask(x, y).is_some();
+    fn visit(&mut self, at: Dot) {
+        let shown = self.plate.ask(at).is_some();
         if shown {
             self.seen = self.seen.saturating_add(1);
         }
@@ -48,9 +48,9 @@ impl<P: Plate> Visitor for Striker<'_, P> {
 
     ghost laws = { striker_laws (λ s. s.plate) P.Plate.laws (λ s. s.ink) };
 
-    fn visit(&mut self, x: i32, y: i32) {
-        if self.plate.ask(x, y).is_some() {
-            let _ = self.plate.strike(x, y, self.ink);
+    fn visit(&mut self, at: Dot) {
+        if self.plate.ask(at).is_some() {
+            let _ = self.plate.strike(at, self.ink);
         }
     }
 }

@@ -1,44 +1,65 @@
-use Rattle.std.proofs.Common.{◌+◌, ◌-◌, ◌*◌, ◌<◌, pos, ◌+ℤ◌, ◌-ℤ◌, ap, ◌∙◌, subst, arith, w32, SFits, rules}
-use Rattle.std.proofs.lemmas.Int.{to_z-of_z}
-use Rattle.plate.specs.World.{within}
-use Rattle.plate.specs.Windows.{world_parts}
-use Rattle.ellipse.proofs.Laws.{width}
-use Rattle.figure.specs.Lines.{dots_from}
-use Rattle.figure.specs.Fills.{fill_rows, filled_dots}
-use Rattle.figure.specs.Reaches.{height, row_dot}
-use Rattle.figure.proofs.Reaches.{row_at, seeks_first, seeks_next, all_rows, next_row}
-use Rattle.figure.proofs.Walks.{start, turn}
+use Rattle.std.proofs.Common.{◌+◌, ◌-ℤ◌, arith, w32, to_z, of_z}
+use Rattle.std.proofs.lemmas.Int.{ints}
+use Rattle.plate.specs.Windows.{world_orders, orders_within}
+use Rattle.figure.proofs.Reaches.{row_within, seeks_first, seeks_at, seeks_after, all_rows, rows_turn, no_row}
+use Rattle.figure.proofs.Walks.{start, finish}
 use Rattle.figure.proofs.fills.walk_filled.Goals as goal
 
-pub loop-k-init : goal.loop-k-init
-loop-k-init g c = (seeks_first c.args.a c.args.b, start g.V.Visitor.laws _ _ _ (all_rows c.args.centre c.args.a c.args.b))
+pub loop-y-init : goal.loop-y-init
+loop-y-init g c =
+    let w = world_orders c.args.centre.at c.args.centre.worldly in
+    let low = c.args.axes.low in
+    let e = c.args.axes.ellipse in
+    (0, omega (arith, ints), omega arith, seeks_first e.a e.b, start g.V.Visitor.laws _ _ _ (all_rows c.args.centre.at e.a e.b))
 
-pub place-requires : goal.place-requires
-place-requires g c =
-    let f : SFits w32 c.args.centre.1 = search rules in
-    (ap within (to_z-of_z w32 _ f) ∙ (world_parts c.args.centre c.requires.0).1, c.requires.2, omega arith)
+pub reach_of_row-reach-requires-clause-rows : goal.reach_of_row-reach-requires-clause-rows
+reach_of_row-reach-requires-clause-rows g c =
+    let i = c.loop-y.invariant in
+    let w = world_orders c.args.centre.at c.args.centre.worldly in
+    let low = c.args.axes.low in
+    row_within c.args.axes.ellipse.b i.0 (to_z w32 (of_z w32 (to_z w32 c.loop-y.y-bits -ℤ to_z w32 (of_z w32 c.args.centre.at.1)))) (omega (arith, ints)) i.2
+
+pub reach_of_row-reach-requires-clause-seeks : goal.reach_of_row-reach-requires-clause-seeks
+reach_of_row-reach-requires-clause-seeks g c =
+    let i = c.loop-y.invariant in
+    let w = world_orders c.args.centre.at c.args.centre.worldly in
+    let low = c.args.axes.low in
+    seeks_at c.args.axes.ellipse.a c.args.axes.ellipse.b i.0 c.loop-y.reach _ (omega (arith, ints)) i.3
 
 pub visit_row-requires : goal.visit_row-requires
 visit_row-requires g c =
-    let f : SFits w32 c.args.centre.0 = search rules in
-    let w = width c.args.a c.args.b c.reach_of_row-reach.result (height c.args.b c.loop-k.k) c.reach_of_row-reach.ensures.lit in
-    (ap within (to_z-of_z w32 _ f) ∙ (world_parts c.args.centre c.requires.0).0, omega (arith, c.requires.1))
+    let w = world_orders c.args.centre.at c.args.centre.worldly in
+    orders_within _ (omega (arith, ints), omega (arith, ints))
 
-pub loop-k-preserved : goal.loop-k-preserved
-loop-k-preserved g c =
-    let fx : SFits w32 c.args.centre.0 = search rules in
-    let fy : SFits w32 c.args.centre.1 = search rules in
-    let fp : SFits w32 c.place.result = search rules in
-    let placed = simp to_z-of_z at c.place.ensures in
-    let visited = simp to_z-of_z at c.visit_row.ensures in
-    let centre = c.args.centre in
-    let a = c.args.a in
-    let b = c.args.b in
-    let k = c.loop-k.k in
-    let r = c.reach_of_row-reach.result in
-    let less : k < 2 * b + 1 = omega arith in
-    let reached = c.reach_of_row-reach.ensures in (
-      seeks_next a b k r reached,
-      turn g.V.Visitor.laws _ _ _ (dots_from (row_dot centre.0 (centre.1 -ℤ pos b +ℤ pos k) r) 0 (2 * r + 1)) (fill_rows centre a b (row_at b (k + 1)) (2 * b + 1 - (k + 1))) (fill_rows centre a b (row_at b k) (2 * b + 1 - k)) (filled_dots centre a b) c.loop-k.invariant.1 (next_row centre a b k r less reached)
-          (subst (λ y. g.V.Visitor.visits c.loop-k.visitor (dots_from (row_dot centre.0 y r) 0 (2 * r + 1)) c.visit_row.new.visitor) placed visited),
+pub loop-y-preserved : goal.loop-y-preserved
+loop-y-preserved g c =
+    let i = c.loop-y.invariant in
+    let w = world_orders c.args.centre.at c.args.centre.worldly in
+    let low = c.args.axes.low in
+    let a = c.args.axes.ellipse.a in
+    let b = c.args.axes.ellipse.b in
+    let r = c.reach_of_row-reach.result in (
+      i.0 + 1,
+      omega (arith, ints),
+      omega (arith, ints),
+      seeks_after a b i.0 r (to_z w32 (of_z w32 (to_z w32 c.loop-y.y-bits -ℤ to_z w32 (of_z w32 c.args.centre.at.1)))) (omega (arith, ints)) c.reach_of_row-reach.ensures,
+      rows_turn g.V.Visitor.laws c.args.centre.at a b i.0 r _ _ _ (to_z w32 (of_z w32 (to_z w32 c.loop-y.y-bits -ℤ to_z w32 (of_z w32 c.args.centre.at.1)))) _ i.4 (omega (arith, ints)) c.reach_of_row-reach.ensures (omega (arith, ints)) (omega (arith, ints)) (omega (arith, ints)) c.visit_row.ensures,
     )
+
+pub returns : goal.returns
+returns g c =
+    let i = c.loop-y.invariant in
+    let w = world_orders c.args.centre.at c.args.centre.worldly in
+    let low = c.args.axes.low in
+    absurd (omega (arith, ints))
+
+pub returns-2 : goal.returns-2
+returns-2 g c =
+    let i = c.loop-y.invariant in
+    let w = world_orders c.args.centre.at c.args.centre.worldly in
+    let low = c.args.axes.low in
+    let a = c.args.axes.ellipse.a in
+    let b = c.args.axes.ellipse.b in
+    finish g.V.Visitor.laws _ _ _ _
+    (rows_turn g.V.Visitor.laws c.args.centre.at a b i.0 c.reach_of_row-reach.result _ _ _ (to_z w32 (of_z w32 (to_z w32 c.loop-y.y-bits -ℤ to_z w32 (of_z w32 c.args.centre.at.1)))) _ i.4 (omega (arith, ints)) c.reach_of_row-reach.ensures (omega (arith, ints)) (omega (arith, ints)) (omega (arith, ints)) c.visit_row.ensures)
+    (no_row c.args.centre.at a b (i.0 + 1) (omega (arith, ints)))

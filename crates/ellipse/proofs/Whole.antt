@@ -1,9 +1,10 @@
+-- All laws of the shape together.
+use Rattle.ellipse.specs.Ellipses.{EllipseLaws}
 use Rattle.ellipse.proofs.Laws.{symmetric, peopled, width, height, joined, falls, next, above, beside}
 use Rattle.ellipse.proofs.Order.{listed}
-use Rattle.ellipse.proofs.ellipse_laws_hold.Goals as goal
 
-pub returns : goal.returns
-returns c = record {
+pub ellipse_laws : EllipseLaws
+ellipse_laws = record {
   symmetric = symmetric;
   peopled = peopled;
   width = width;
