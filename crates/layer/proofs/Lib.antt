@@ -1,2 +1,2 @@
-mod Opening
-mod Sums
+pub mod Opening
+pub mod Bounds

@@ -1,6 +1,7 @@
 -- Proofs: a layer over a plate keeps the laws of plates. Nothing here needs to be believed.
 use Rattle.std.specs.Prelude.{◌≡◌, ℕ, ◌+◌, Bool, true, cond, ◌&&◌, List, [], ◌∷◌, ◌++◌, map, ℤ, pos, ◌+ℤ◌, refl}
 use Rattle.std.proofs.Common.{sym, ap, subst, ◌∙◌, inl, inr, arith}
+use mathlib.Core.List.{map-map}
 use Rattle.std.proofs.lemmas.List.{map-append, length-map}
 use Rattle.std.proofs.lemmas.Int.{ints, clamps}
 use Rattle.std.proofs.lemmas.Bool.{and_parts, and_from, cases_Bool, cond-true, cond-false}
@@ -102,10 +103,6 @@ view-Seen l ls m w f n s = record {
   lit = λ p t. s.lit (step l p) (view_below l w p t);
   shots = s.shots;
 }
-
-map-map : {A B C : Type 0} (g : B → C) (f : A → B) (xs : List A) → map g (map f xs) ≡ map (λ x. g (f x)) xs
-map-map g f [] = refl
-map-map g f (x ∷ xs) = ap (λ l. g (f x) ∷ l) (map-map g f xs)
 
 -- a layer's history: it is the same layer, and the plate below went through the places
 abbrev pub Lowered : {S Q : Type 0} (layer : S → Layer) (below : S → Q) (strikes : Q → List Strike → Q → Type 0) → S → List Strike → S → Type 0

@@ -2,32 +2,34 @@
 // A layer over a plate is a plate: it keeps all the laws, its window, lit dots and shots are those below seen through it, and its history is the history of the places below.
 // `Over` has what all layers share; `Overlay` is what one layer does. How a pile maps dots is told by the crate `pile`.
 // Read on in specs/Layers.antt and specs/Views.antt, in `plate`'s specs/Piles.antt, and in docs/LAYERS.md.
-#![tactic(auto)]
+#![tactic(auto, unfolding(plate::specs::Piles::handable, plate::specs::Piles::handable_dot))]
 
-ghost use Rattle.std.specs.Prelude.{◌≡◌, true, ◌&&◌, [], ◌∷◌};
+ghost use Rattle.std.specs.Prelude.{◌≡◌, true, ◌&&◌, [], ◌∷◌, Some, None, if◌then◌else◌};
 ghost use Rattle.plate.specs.declared.Window.{Window};
 ghost use Rattle.plate.specs.World.{world, window_of};
-ghost use Rattle.plate.specs.Plates.{Layer, step, admits, near, asked, strike_answer, accepted};
-ghost use Rattle.plate.specs.Answers.{told, strike_number};
-ghost use Rattle.plate.specs.Piles.{handable_dot, turn_of};
+ghost use Rattle.plate.specs.Plates.{Layer, step, admits, near};
+ghost use Rattle.plate.specs.Piles.{carried, turn_of};
 ghost use Rattle.layer.specs.Views.{view, place_below};
 ghost use Rattle.layer.specs.Layers.{layer_number};
 ghost use Rattle.layer.specs.LayerLaws.{layer_laws, Lowered};
 
 mod masks;
-mod numbers;
 mod shifts;
 mod turns;
+mod windows;
 
 pub use masks::{Mask, Masking, mask_over};
-use plate::{Facing, Ink, Plate, Refusal, StrikeRefusal, Window, in_world};
+use plate::{Dot, Facing, Ink, Plate, Refusal, StrikeRefusal, Window, in_world};
 pub use shifts::{Shift, Shifting, check_shift, shift_over};
+use thiserror::Error;
 pub use turns::{Turn, Turning, check_turn, turn_over};
 
 // Why a shift or a turn was refused.
-#[derive(Clone, Copy)]
+#[derive(Clone, Copy, Debug, PartialEq, Eq, Error)]
 pub enum LayerRefusal {
+    #[error("a shift goes by numbers of the world alone")]
     BadShift,
+    #[error("turns have the numbers 0 to 7")]
     BadTurn,
 }
 
@@ -48,16 +50,19 @@ pub trait Overlay {
 
     ghost small: { (s : Self) → near (layer s) ≡ true };
 
-    // The place below of a dot above; a dot whose place no call can be handed stays where it is.
-    fn map(&self, at: (i32, i32)) -> (i32, i32)
-        ensures { result ≡ place_below (layer self.now) at };
+    // The place below of a dot above; none where it can be handed to no call.
+    fn step(&self, at: Dot) -> Option<Dot>
+        ensures { result ≡ carried (layer self.now ∷ []) at };
 
-    // Whether the place below can be handed to a call.
-    fn reaches(&self, at: (i32, i32)) -> bool
-        ensures { result ≡ handable_dot (step (layer self.now) at) };
+    // The same for every dot: one whose place no call can be handed stays where it is.
+    final fn map(&self, at: Dot) -> Dot
+        ensures { result ≡ place_below (layer self.now) at }
+    {
+        self.step(at).unwrap_or(at)
+    }
 
-    // Whether the layer hides no such dot.
-    fn admits(&self, at: (i32, i32)) -> bool
+    // Whether the layer hides no such dot. Neither this nor `turn` has a body here: it would have to hold of every layer.
+    fn admits(&self, at: Dot) -> bool
         ensures { result ≡ admits (layer self.now) at };
 
     // The window above, by the window that these bounds make below.
@@ -75,26 +80,17 @@ pub struct Over<L, P> {
     below: P,
 }
 
-fn ask_at<P: Plate>(plate: &mut P, at: (i32, i32)) -> Option<bool>
-    ensures value { result ≡ asked (P.Plate.window plate.old) (P.Plate.lit plate.old) at }
-    ensures same { P.Plate.strikes plate.old [] plate.new }
-{
-    plate.ask(at.0, at.1)
-}
-
-fn strike_at<P: Plate>(plate: &mut P, at: (i32, i32), ink: Ink) -> Result<(), StrikeRefusal>
-    ensures answer { told strike_number result ≡ strike_answer (P.Plate.window plate.old) (P.Plate.shots plate.old) at }
-    ensures history { P.Plate.strikes plate.old (accepted (P.Plate.window plate.old) (P.Plate.shots plate.old) (at, ink)) plate.new }
-{
-    plate.strike(at.0, at.1, ink)
-}
-
 impl<L: Overlay, P> Over<L, P> {
-    // Whether a dot above has a place that the plate below may be asked about: it is one of the world, and not hidden.
-    fn opens(&self, at: (i32, i32)) -> bool
-        ensures { result ≡ (world at && admits (L.Overlay.layer self.now.layer) at) }
+    // The place that the plate below may be asked about, for a dot of the world that is not hidden.
+    #[tactic(auto, using(crate::proofs::Opening::place_opened))]
+    fn opened(&self, at: Dot) -> Option<Dot>
+        ensures { result ≡ (if world at && admits (L.Overlay.layer self.now.layer) at then Some (step (L.Overlay.layer self.now.layer) at) else None) }
     {
-        in_world(at.0, at.1) && self.layer.admits(at)
+        if in_world(at) && self.layer.admits(at) {
+            Some(self.layer.map(at))
+        } else {
+            None
+        }
     }
 }
 
@@ -122,28 +118,20 @@ impl<L: Overlay, P: Plate> Plate for Over<L, P> {
         self.below.shots()
     }
 
-    fn ask(&mut self, x: i32, y: i32) -> Option<bool> {
-        if !self.opens((x, y)) {
-            return None;
-        }
-        let place = self.layer.map((x, y));
-        ask_at(&mut self.below, place)
+    #[tactic(auto, using(crate::proofs::Opening::inside_opened))]
+    fn ask(&mut self, at: Dot) -> Option<bool> {
+        let place = self.opened(at)?;
+        self.below.ask(place)
     }
 
-    fn strike(&mut self, x: i32, y: i32, ink: Ink) -> Result<(), StrikeRefusal> {
-        if !self.opens((x, y)) {
-            return Err(StrikeRefusal::Outside);
-        }
-        let place = self.layer.map((x, y));
-        strike_at(&mut self.below, place, ink)
+    #[tactic(auto, using(crate::proofs::Opening::inside_opened))]
+    fn strike(&mut self, at: Dot, ink: Ink) -> Result<(), StrikeRefusal> {
+        let place = self.opened(at).ok_or(StrikeRefusal::Outside)?;
+        self.below.strike(place, ink)
     }
 
-    fn carry(&mut self, at: (i32, i32)) -> Option<(i32, i32)> {
-        if !self.layer.reaches(at) {
-            return None;
-        }
-        let next = self.layer.map(at);
-        self.below.carry(next)
+    fn carry(&mut self, at: Dot) -> Option<Dot> {
+        self.below.carry(self.layer.step(at)?)
     }
 
     fn facing(&mut self) -> Facing {

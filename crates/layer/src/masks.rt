@@ -4,13 +4,14 @@ ghost use Rattle.plate.specs.World.{window_of};
 ghost use Rattle.plate.specs.Plates.{mask};
 ghost use Rattle.layer.specs.Layers.{mask_layer};
 
-use crate::numbers::{clipped, overlapping};
+use crate::windows::{clipped, overlapping};
 use crate::{Over, Overlay};
-use plate::{Facing, Window};
+use plate::{Dot, Facing, Window};
 
-#[derive(Clone, Copy)]
+// A mask by the window that it shows.
+#[derive(Clone, Copy, Debug, PartialEq, Eq)]
 pub struct Masking {
-    bounds: Window,
+    shown: Window,
 }
 
 pub type Mask<P> = Over<Masking, P>;
@@ -20,19 +21,10 @@ pub fn mask_over<P>(bounds: Window, below: P) -> Mask<P>
     ensures layer { mask_layer result.layer ≡ mask (window_of bounds) }
     ensures below { result.below ≡ below }
 {
-    Over {
-        layer: Masking { bounds },
-        below,
-    }
-}
-
-impl Masking {
-    // The window that the mask shows.
-    fn shown(self) -> Window
-        ensures { result ≡ window_of self.bounds }
-    {
-        self.bounds.made()
-    }
+    let layer = Masking {
+        shown: bounds.made(),
+    };
+    Over { layer, below }
 }
 
 impl Overlay for Masking {
@@ -40,21 +32,16 @@ impl Overlay for Masking {
 
     ghost small = { λ s. refl };
 
-    fn map(&self, at: (i32, i32)) -> (i32, i32) {
-        at
+    fn step(&self, at: Dot) -> Option<Dot> {
+        Some(at)
     }
 
-    fn reaches(&self, _at: (i32, i32)) -> bool {
-        true
-    }
-
-    fn admits(&self, at: (i32, i32)) -> bool {
-        self.shown().contains(at.0, at.1)
+    fn admits(&self, at: Dot) -> bool {
+        self.shown.contains(at)
     }
 
     fn view(&self, below: Window) -> Window {
-        let below = below.made();
-        clipped(overlapping(self.shown(), below))
+        clipped(overlapping(self.shown, below.made()))
     }
 
     fn turn(&self) -> Facing {

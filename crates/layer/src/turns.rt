@@ -1,56 +1,52 @@
 // A turn shows a plate turned or mirrored, in one of eight ways.
-ghost use Rattle.std.specs.Prelude.{◌≡◌, true, if◌then◌else◌, unsigned_abs, refl};
-ghost use Rattle.plate.specs.World.{within};
-ghost use Rattle.plate.specs.Answers.{told, done, refused};
-ghost use Rattle.plate.specs.Plates.{Framed, turned as turned_of};
-ghost use Rattle.plate.specs.Piles.{facing_number, handable_dot};
-ghost use Rattle.layer.specs.Views.{flipped as flipped_of, window_by, unturned as unturned_of};
-ghost use Rattle.layer.specs.Layers.{layer_number, turn_number, turn_layer};
+ghost use Rattle.std.specs.Prelude.{◌≡◌, [], ◌∷◌, if◌then◌else◌, unsigned_abs, refl};
+ghost use Rattle.plate.specs.World.{window_of};
+ghost use Rattle.plate.specs.Answers.{told};
+ghost use Rattle.plate.specs.Plates.{turn};
+ghost use Rattle.plate.specs.Piles.{facing_number, carried};
+ghost use Rattle.layer.specs.Views.{unturned as unturned_of};
+ghost use Rattle.layer.specs.Layers.{layer_number, turn_number, turn_layer, MakesTurn};
 
-use crate::numbers::{can_negate, clipped, negated};
+use crate::windows::{clipped, spans, window_by};
 use crate::{LayerRefusal, Over, Overlay};
-use plate::{Facing, Window};
+use plate::{Dot, Facing, Window};
 
-#[derive(Clone, Copy)]
+// A turn by the way in which it lays the plane on itself.
+#[derive(Clone, Copy, Debug, PartialEq, Eq)]
 pub struct Turning {
     facing: Facing,
 }
 
 pub type Turn<P> = Over<Turning, P>;
 
-fn is_turn(number: i32) -> bool
-    ensures { result ≡ turn_number number }
-{
-    0 <= number && number <= 7
+// The turn of a number: the way back from `From<Facing> for u8`.
+impl TryFrom<i32> for Turning {
+    type Error = LayerRefusal;
+
+    ghost try_from_gives = { MakesTurn };
+
+    fn try_from(number: i32) -> Result<Turning, LayerRefusal> {
+        let facing = match number {
+            0 => Facing::Same,
+            1 => Facing::Quarter,
+            2 => Facing::Half,
+            3 => Facing::Back,
+            4 => Facing::AcrossX,
+            5 => Facing::AcrossY,
+            6 => Facing::Swap,
+            7 => Facing::Anti,
+            _ => return Err(LayerRefusal::BadTurn),
+        };
+        Ok(Turning { facing })
+    }
 }
 
-// Whether there is a turn of this number.
+// Whether there is a turn of this number. It is taken as it is given, here and in `turn_over`: a type for it would ask more of callers.
 pub fn check_turn(number: i32) -> Result<(), LayerRefusal>
-    ensures { told layer_number result ≡ (if turn_number number then done tt else refused 1) }
+    ensures { told layer_number result ≡ (if turn_number number then Ok tt else Err 1) }
 {
-    if is_turn(number) {
-        Ok(())
-    } else {
-        Err(LayerRefusal::BadTurn)
-    }
-}
-
-fn numbered(number: i32) -> Facing
-    ensures { facing_number result ≡ (if turn_number number then unsigned_abs number else 0) }
-{
-    if !is_turn(number) {
-        return Facing::Same;
-    }
-    match number.unsigned_abs() {
-        0 => Facing::Same,
-        1 => Facing::Quarter,
-        2 => Facing::Half,
-        3 => Facing::Back,
-        4 => Facing::AcrossX,
-        5 => Facing::AcrossY,
-        6 => Facing::Swap,
-        _ => Facing::Anti,
-    }
+    Turning::try_from(number)?;
+    Ok(())
 }
 
 // A turn over a plate. A refused number makes turn 0.
@@ -58,69 +54,37 @@ pub fn turn_over<P>(number: i32, below: P) -> Turn<P>
     ensures layer { facing_number result.layer.facing ≡ (if turn_number number then unsigned_abs number else 0) }
     ensures below { result.below ≡ below }
 {
-    Over {
-        layer: Turning {
-            facing: numbered(number),
-        },
-        below,
-    }
+    let layer = Turning::try_from(number).unwrap_or(Turning {
+        facing: Facing::Same,
+    });
+    Over { layer, below }
 }
 
-// Where a turn sends a dot.
-fn turned(facing: Facing, x: i32, y: i32) -> (i32, i32)
-    ensures { handable_dot (turned_of facing (x, y)) ≡ true → result ≡ turned_of facing (x, y) }
+// Where a turn sends a dot; none where a number of its place can be handed to no call.
+fn turned(facing: Facing, at: Dot) -> Option<Dot>
+    ensures { result ≡ carried (turn facing ∷ []) at }
 {
-    match facing {
+    let (x, y) = at;
+    Some(match facing {
         Facing::Same => (x, y),
-        Facing::Quarter => (negated(y), x),
-        Facing::Half => (negated(x), negated(y)),
-        Facing::Back => (y, negated(x)),
-        Facing::AcrossX => (negated(x), y),
-        Facing::AcrossY => (x, negated(y)),
+        Facing::Quarter => (y.checked_neg()?, x),
+        Facing::Half => (x.checked_neg()?, y.checked_neg()?),
+        Facing::Back => (y, x.checked_neg()?),
+        Facing::AcrossX => (x.checked_neg()?, y),
+        Facing::AcrossY => (x, y.checked_neg()?),
         Facing::Swap => (y, x),
-        Facing::Anti => (negated(y), negated(x)),
-    }
+        Facing::Anti => (y.checked_neg()?, x.checked_neg()?),
+    })
 }
 
-fn can_turn(facing: Facing, x: i32, y: i32) -> bool
-    ensures { result ≡ handable_dot (turned_of facing (x, y)) }
+// The dots that a turn sends into the window that these bounds make.
+#[tactic(auto, unfolding(crate::specs::Views::unturned))]
+fn unturned(facing: Facing, bounds: Window) -> Window
+    ensures { result ≡ unturned_of facing (window_of bounds) }
 {
-    match facing {
-        Facing::Same | Facing::Swap => true,
-        Facing::Quarter | Facing::AcrossY => can_negate(y),
-        Facing::Back | Facing::AcrossX => can_negate(x),
-        Facing::Half | Facing::Anti => can_negate(x) && can_negate(y),
-    }
-}
-
-// The bounds of numbers that are negated first, or not.
-fn flipped(negates: bool, low: i32, high: i32) -> (i32, i32)
-    ensures { within low ≡ true → within high ≡ true → result ≡ flipped_of negates low high }
-{
-    if negates {
-        (negated(high), negated(low))
-    } else {
-        (low, high)
-    }
-}
-
-fn window_by(across: (i32, i32), along: (i32, i32)) -> Window
-    ensures { result ≡ window_by across along }
-{
-    Window {
-        left: across.0,
-        top: along.0,
-        right: across.1,
-        bottom: along.1,
-    }
-}
-
-// The dots that a turn sends into a window.
-fn unturned(facing: Facing, w: Window) -> Window
-    ensures { Framed w → result ≡ unturned_of facing w }
-{
-    let first = flipped(facing.negates_first(), w.left, w.right);
-    let second = flipped(facing.negates_second(), w.top, w.bottom);
+    let (across, along) = spans(bounds);
+    let first = across.flipped(facing.negates_first());
+    let second = along.flipped(facing.negates_second());
     if facing.exchanges() {
         window_by(second, first)
     } else {
@@ -133,23 +97,16 @@ impl Overlay for Turning {
 
     ghost small = { λ s. refl };
 
-    fn map(&self, at: (i32, i32)) -> (i32, i32) {
-        if !self.reaches(at) {
-            return at;
-        }
-        turned(self.facing, at.0, at.1)
+    fn step(&self, at: Dot) -> Option<Dot> {
+        turned(self.facing, at)
     }
 
-    fn reaches(&self, at: (i32, i32)) -> bool {
-        can_turn(self.facing, at.0, at.1)
-    }
-
-    fn admits(&self, _at: (i32, i32)) -> bool {
+    fn admits(&self, _at: Dot) -> bool {
         true
     }
 
     fn view(&self, below: Window) -> Window {
-        clipped(unturned(self.facing, below.made()))
+        clipped(unturned(self.facing, below))
     }
 
     fn turn(&self) -> Facing {

@@ -1,5 +1,5 @@
 -- A pile that shows a dot, and a pile that is not too deep, loses no number of the world on the way down.
-use Rattle.std.proofs.Common.{◌≡◌, ℕ, suc, ◌+◌, ◌*◌, ◌≤◌, true, false, ◌&&◌, List, [], ◌∷◌, length, ℤ, pos, negsuc, ◌≤ℤ◌, Some, None, Option, sym, refl, ap, ◌∙◌, inl, inr, arith}
+use Rattle.std.proofs.Common.{◌≡◌, ℕ, suc, ◌+◌, ◌*◌, ◌≤◌, true, false, ◌&&◌, List, [], ◌∷◌, length, ℤ, pos, negsuc, ◌≤ℤ◌, Some, None, sym, refl, ◌∙◌, inl, inr, arith}
 use lib.Signed.{le_z}
 use Rattle.std.proofs.lemmas.Int.{ints}
 use Rattle.std.proofs.lemmas.Bool.{and_parts, and_from, cases_Bool, cond-true, cond-false}
@@ -8,7 +8,6 @@ use Rattle.plate.specs.World.{Dot, within, world, inside, empty, canonical}
 use Rattle.plate.specs.Plates.{Layer, mask, shift, turn, step, place, admits, shows, Framed, Seen, Meaning, near, Near}
 use Rattle.plate.specs.Piles.{handable, handable_dot, carried, has_dots, apart}
 use Rattle.plate.specs.Windows.{le_true, world_orders, orders_inside}
-use Rattle.pile.specs.Carried.{pair_of, carried_line}
 use Rattle.pile.proofs.Maps.{origin, turned-origin, map_laws}
 
 handable_orders : (z : ℤ) → negsuc 2147483647 ≤ℤ z → z ≤ℤ pos 2147483647 → handable z ≡ true
@@ -87,7 +86,3 @@ carried_far (l ∷ ls) k p h d a =
 pub carry_deep : (ls : List Layer) (p : Dot) → Near ls → world p ≡ true → length ls ≤ 65000 → carried ls p ≡ Some (place ls p)
 unfolding apart
 carry_deep ls p n h d = let a = world_orders p h in carried_far ls 1 p n (omega arith) (omega (arith, ints))
-
--- two ends carried one after the other: to carry the first leaves the layers as they were
-pub line_is : {ls ms : List Layer} (from to : Dot) {r s x y : Option Dot} → ms ≡ ls → r ≡ carried ls from → r ≡ x → s ≡ carried ms to → s ≡ y → pair_of x y ≡ carried_line ls from to
-line_is from to stays a p b q = λ i. pair_of ((sym p ∙ a) i) ((sym q ∙ b ∙ ap (λ ls. carried ls to) stays) i)

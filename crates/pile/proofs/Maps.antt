@@ -2,6 +2,7 @@
 use Rattle.std.proofs.Common.{◌≡◌, ℕ, suc, ◌+◌, ◌*◌, ◌%◌, Bool, true, false, cond, ◌&&◌, eqb, List, [], ◌∷◌, ℤ, pos, ◌+ℤ◌, ◌-ℤ◌, neg_ℤ, nat_abs, ◌≤ℤ◌, sym, refl, ap, ◌∙◌, inl, inr, mul_comm, arith}
 use lib.Signed.{le_z}
 use Rattle.std.specs.Int.{int_max, int_min}
+use Rattle.std.proofs.Math.Bool.{and_comm}
 use Rattle.std.proofs.lemmas.Int.{ints, clamps}
 use Rattle.std.proofs.lemmas.Bool.{and_parts, and_from, cases_Bool, cases_eq, cond-true, cond-false, eq-eqb, ne_eqb}
 use Rattle.plate.specs.declared.Window.{Window}
@@ -179,12 +180,6 @@ unfolding apart
 laid-apart true a b c p q = let h = along_apart a c.0 p.1 q.1 in let k = along_apart b c.1 p.0 q.0 in omega arith
 laid-apart false a b c p q = let h = along_apart a c.0 p.0 q.0 in let k = along_apart b c.1 p.1 q.1 in omega arith
 
-and_comm : (x y : Bool) → (x && y) ≡ (y && x)
-and_comm true true = refl
-and_comm true false = refl
-and_comm false true = refl
-and_comm false false = refl
-
 -- a window's opposite corners have their places at opposite corners
 abbrev laid_window : Bool → Bool → Bool → Dot → Window → Window
 laid_window e a b c w = spanned (laid e a b c (w.left, w.top)) (laid e a b c (w.right, w.bottom))
@@ -235,7 +230,7 @@ odd_more false n = elim (cases_eq (n % 2) 1) [
   | inr h ↦ ap (differs false) (ne_eqb (n % 2) 1 h) ∙ sym (ne_eqb ((0 + n) % 2) 1 (λ k. omega arith))
 ]
 
-exchanges_odd : (ls : List Layer) → exchanges (facing_of ls) ≡ eqb (exchangings ls % 2) 1
+pub exchanges_odd : (ls : List Layer) → exchanges (facing_of ls) ≡ eqb (exchangings ls % 2) 1
 exchanges_odd [] = refl
 exchanges_odd (l ∷ ls) =
     (has_parts (differs (exchanges (turn_of l)) (exchanges (facing_of ls))) _ _).0

@@ -9,10 +9,10 @@ ghost use Rattle.plate.specs.Plates.{place};
 ghost use Rattle.plate.specs.Piles.{carried, facing_of, exchanges, exchangings, MapLaws};
 ghost use Rattle.pile.specs.Carried.{carried_line};
 
-use plate::{Facing, Plate};
+use plate::{Dot, Facing, Plate};
 
 // Where a dot lies on the lowest plate; none where a number on the way is too large to be handed to any call.
-pub fn place_of<P: Plate>(plate: &mut P, at: (i32, i32)) -> Option<(i32, i32)>
+pub fn place_of<P: Plate>(plate: &mut P, at: Dot) -> Option<Dot>
     ensures value { result ≡ carried (P.Plate.layers plate.old) at }
     // a pile that shows a dot at all loses no number of the world on the way
     ensures exact { world at ≡ true → (P.Plate.window plate.old ≢ empty) → result ≡ Some (place (P.Plate.layers plate.old) at) }
@@ -33,6 +33,7 @@ pub fn facing_of<P: Plate>(plate: &mut P) -> Facing
 }
 
 // Whether a pile exchanges the axes: where an odd number of its turns do.
+#[tactic(auto, using(crate::proofs::Maps::exchanges_odd))]
 pub fn exchanges_axes<P: Plate>(plate: &mut P) -> bool
     ensures value { result ≡ exchanges (facing_of (P.Plate.layers plate.old)) }
     ensures odd { result ≡ (exchangings (P.Plate.layers plate.old) % 2 == 1) }
@@ -42,15 +43,9 @@ pub fn exchanges_axes<P: Plate>(plate: &mut P) -> bool
 }
 
 // A line carried down: its ends on the lowest plate.
-pub fn line_below<P: Plate>(
-    plate: &mut P,
-    from: (i32, i32),
-    to: (i32, i32),
-) -> Option<((i32, i32), (i32, i32))>
+pub fn line_below<P: Plate>(plate: &mut P, from: Dot, to: Dot) -> Option<(Dot, Dot)>
     ensures value { result ≡ carried_line (P.Plate.layers plate.old) from to }
     ensures same { P.Plate.strikes plate.old [] plate.new }
 {
-    let begin = plate.carry(from)?;
-    let end = plate.carry(to)?;
-    Some((begin, end))
+    Some((plate.carry(from)?, plate.carry(to)?))
 }

@@ -1,17 +1,13 @@
-use Rattle.std.proofs.Common.{◌∙◌, rules}
+use Rattle.std.proofs.Common.{◌∙◌}
 use Rattle.pile.proofs.Maps.{map_laws}
 use Rattle.pile.proofs.Carrying.{carry_true, carry_deep}
 use Rattle.pile.proofs.place_of.Goals as goal
 
-pub returns : goal.returns
-returns g c =
-    let laws = g.P.Plate.laws in
-    let plate = c.args.plate.now in
-    let value = c.carry.ensures.value in
-    record {
-      value = value;
-      exact = λ h o. value ∙ carry_true _ _ _ c.args.at (laws.sees plate) (laws.framed_below plate) (laws.framed plate) h o;
-      deep = λ h d. value ∙ carry_deep _ c.args.at (laws.near plate) h d;
-      maps = map_laws (g.P.Plate.layers plate);
-      same = search rules;
-    }
+pub returns-clause-exact : goal.returns-clause-exact
+returns-clause-exact g c = let laws = g.P.Plate.laws in λ h o. c.carry.ensures.value ∙ carry_true _ _ _ c.args.at (laws.sees _) (laws.framed_below _) (laws.framed _) h o
+
+pub returns-clause-deep : goal.returns-clause-deep
+returns-clause-deep g c = λ h d. c.carry.ensures.value ∙ carry_deep _ c.args.at (g.P.Plate.laws.near _) h d
+
+pub returns-clause-maps : goal.returns-clause-maps
+returns-clause-maps g c = map_laws _

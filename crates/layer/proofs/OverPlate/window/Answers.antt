@@ -1,14 +1,11 @@
-use Rattle.std.proofs.Common.{refl, ap, ◌∙◌}
+use Rattle.std.proofs.Common.{ap, ◌∙◌}
 use Rattle.plate.specs.World.{window_of}
 use Rattle.layer.specs.Views.{view}
-use Rattle.layer.proofs.Sums.{window_of-Framed}
+use Rattle.layer.proofs.Bounds.{window_of_framed}
 use Rattle.layer.proofs.OverPlate.window.Goals as goal
 
-pub returns : goal.returns
-returns g c =
+pub returns-clause-value : goal.returns-clause-value
+returns-clause-value g c =
     let s = c.args.self.now in
-    let l = g.L.Overlay.layer s.layer in
-    record {
-      value = c.view.ensures ∙ ap (λ w. view l (window_of w)) c.window-below.ensures.value ∙ ap (view l) (window_of-Framed (g.P.Plate.window s.below) (g.P.Plate.laws.framed s.below));
-      same = (refl, c.window-below.ensures.same);
-    }
+    let seen = view (g.L.Overlay.layer s.layer) in
+    c.view.ensures ∙ ap (λ w. seen (window_of w)) c.window-below.ensures.value ∙ ap seen (window_of_framed (g.P.Plate.window s.below) (g.P.Plate.laws.framed s.below))
