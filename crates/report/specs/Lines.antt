@@ -1,9 +1,8 @@
 -- The printed lines, byte for byte, and what a call answers and leaves that writes one.
-use Rattle.std.specs.Prelude.{ℕ, zero, suc, ◌+◌, Bool, cond, List, [], ◌∷◌, ◌++◌, length, drop, ℤ, pos, ◌+ℤ◌, ◌-ℤ◌, codes, decimal, nat_le, unsigned_abs}
+use Rattle.std.specs.Prelude.{ℕ, zero, suc, ◌+◌, Bool, cond, List, [], ◌∷◌, ◌++◌, length, drop, ℤ, pos, ◌+ℤ◌, ◌-ℤ◌, codes, decimal, nat_le, unsigned_abs, Result, Ok, Err}
 use Rattle.std.specs.List.{concat}
 use Rattle.plate.specs.declared.Window.{Window}
 use Rattle.plate.specs.World.{Dot, inside}
-use Rattle.plate.specs.Answers.{Answer, done, refused}
 use Rattle.report.specs.declared.PrintRefusal.{PrintRefusal}
 use Rattle.report.specs.declared.PrintRefusal.TheVariants.{Outside, TooShort}
 
@@ -46,16 +45,16 @@ abbrev pub row_line : Window → (Dot → Bool) → ℤ → List ℕ
 row_line w lit y = marks lit (breadth w) w.left y ++ feed
 
 -- a line is written whole or not at all: 11 where there are too few bytes for it
-abbrev pub line_answer : List ℕ → List ℕ → Answer ℕ
-line_answer line bytes = cond (nat_le (length line) (length bytes)) (done (length line)) (refused 11)
+abbrev pub line_answer : List ℕ → List ℕ → Result ℕ ℕ
+line_answer line bytes = cond (nat_le (length line) (length bytes)) (Ok (length line)) (Err 11)
 
 -- the line stands at the start, and the bytes after it keep what they held
 abbrev pub written : List ℕ → List ℕ → List ℕ
 written line bytes = cond (nat_le (length line) (length bytes)) (line ++ drop (length line) bytes) bytes
 
 -- 20 where the window has no such row, whatever bytes there are
-abbrev pub row_answer : Window → (Dot → Bool) → ℤ → List ℕ → Answer ℕ
-row_answer w lit y bytes = cond (has_row w y) (line_answer (row_line w lit y) bytes) (refused 20)
+abbrev pub row_answer : Window → (Dot → Bool) → ℤ → List ℕ → Result ℕ ℕ
+row_answer w lit y bytes = cond (has_row w y) (line_answer (row_line w lit y) bytes) (Err 20)
 
 abbrev pub row_written : Window → (Dot → Bool) → ℤ → List ℕ → List ℕ
 row_written w lit y bytes = cond (has_row w y) (written (row_line w lit y) bytes) bytes

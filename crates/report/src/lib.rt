@@ -4,19 +4,22 @@
 // Read on in specs/Lines.antt, which has every line byte for byte, and in docs/PRINTING.md.
 #![tactic(auto)]
 
-ghost use Rattle.std.specs.Prelude.{◌≡◌, ℕ, ◌+◌, ◌<◌, ◌≤◌, true, [], length, pos, ◌+ℤ◌, decimal, nat_le};
-ghost use Rattle.std.proofs.lemmas.List.Edits.{sets};
+ghost use Rattle.std.specs.Prelude.{◌≡◌, ◌≤◌, true, [], ◌++◌, length, drop, map};
+ghost use Rattle.std.specs.List.{concat};
 ghost use Rattle.plate.specs.World.{inside};
 ghost use Rattle.plate.specs.Answers.{told};
-ghost use Rattle.report.specs.Lines.{print_number, header, refusal_line, line_answer, written, mark, marks, breadth, row_answer, row_written};
-ghost use Rattle.report.specs.Pieces.{said, said_all};
+ghost use Rattle.report.specs.Lines.{print_number, header, refusal_line, line_answer, written, mark, marks, breadth, has_row, row_answer, row_written};
 
-use plate::{Plate, Refusal, Window};
+use itoa::Buffer;
+use plate::{Dot, Plate, Refusal, Window};
+use thiserror::Error;
 
 // Why a line was not written.
-#[derive(Clone, Copy)]
+#[derive(Clone, Copy, Debug, PartialEq, Eq, Error)]
 pub enum PrintRefusal {
+    #[error("the window has no such row")]
     Outside,
+    #[error("the line is longer than the bytes for it")]
     TooShort,
 }
 
@@ -31,95 +34,22 @@ impl Refusal for PrintRefusal {
     }
 }
 
-// How many digits a number has.
-fn decimal_len(n: u32) -> usize
-    ensures { result ≡ length (decimal n) }
+// Writes the pieces one after another at the start of the bytes, or nothing where they do not fit, which `write!` could not promise:
+// the first piece is written once the others are. The function calls itself, since a loop that moves along the bytes leaves
+// open to a proof what they end as.
+fn write_line(out: &mut [u8], pieces: &[&str]) -> Result<usize, PrintRefusal>
+    ensures answer { told print_number result ≡ line_answer (concat (map (λ p. p.now) pieces.now)) out.old }
+    ensures bytes { out.new ≡ written (concat (map (λ p. p.now) pieces.now)) out.old }
 {
-    if n < 10 { 1 } else { decimal_len(n / 10) + 1 }
-}
-
-// Writes the digits of a number, and answers the place after them.
-fn put_number(out: &mut [u8], at: usize, n: u32) -> usize
-    requires { at + length (decimal n) ≤ length out.old }
-    ensures after { result ≡ at + length (decimal n) }
-    ensures bytes { out.new ≡ sets out.old at (decimal n) }
-{
-    let last = if n < 10 {
-        at
-    } else {
-        put_number(out, at, n / 10)
+    let Some((first, others)) = pieces.split_first() else {
+        return Ok(0);
     };
-    out[last] = b'0' + (n % 10) as u8;
-    last + 1
-}
-
-// Writes a text, and answers the place after it.
-fn put_text(out: &mut [u8], at: usize, text: &[u8]) -> usize
-    requires { at + length text.now ≤ length out.old }
-    ensures after { result ≡ at + length text.now }
-    ensures bytes { out.new ≡ sets out.old at text.now }
-{
-    let end = at + text.len();
-    out[at..end].copy_from_slice(text);
-    end
-}
-
-// A piece of a line: a text as it stands, or a number in base ten.
-#[derive(Clone, Copy)]
-enum Piece<'a> {
-    Text(&'a [u8]),
-    Number(u32),
-}
-
-impl Piece<'_> {
-    fn len(self) -> usize
-        ensures { result ≡ length (said self.entry) }
-    {
-        match self {
-            Piece::Text(text) => text.len(),
-            Piece::Number(n) => decimal_len(n),
-        }
-    }
-
-    fn put(self, out: &mut [u8], at: usize) -> usize
-        requires { at + length (said self) ≤ length out.old }
-        ensures after { result ≡ at + length (said self.entry) }
-        ensures bytes { out.new ≡ sets out.old at (said self.entry) }
-    {
-        match self {
-            Piece::Text(text) => put_text(out, at, text),
-            Piece::Number(n) => put_number(out, at, n),
-        }
-    }
-}
-
-// The room shrinks piece by piece, so that no sum of lengths can grow too large.
-fn all_fit(pieces: &[Piece], mut room: usize) -> bool
-    ensures { result ≡ nat_le (length (said_all pieces.now)) room }
-{
-    for piece in pieces {
-        let len = piece.len();
-        if room < len {
-            return false;
-        }
-        room -= len;
-    }
-    true
-}
-
-// Writes the pieces at the start of the bytes, or nothing where they do not fit.
-fn write_line(out: &mut [u8], pieces: &[Piece]) -> Result<usize, PrintRefusal>
-    ensures answer { told print_number result ≡ line_answer (said_all pieces.now) out.old }
-    ensures bytes { out.new ≡ written (said_all pieces.now) out.old }
-{
-    if !all_fit(pieces, out.len()) {
+    let Some((here, rest)) = out.split_at_mut_checked(first.len()) else {
         return Err(PrintRefusal::TooShort);
-    }
-    let mut at = 0;
-    for piece in pieces {
-        at = piece.put(out, at);
-    }
-    Ok(at)
+    };
+    let len = write_line(rest, others)?;
+    here.copy_from_slice(first.as_bytes());
+    Ok(first.len() + len)
 }
 
 // Writes "width height shots".
@@ -132,13 +62,16 @@ pub fn write_header(
     ensures answer { told print_number result ≡ line_answer (header width height shots) out.old }
     ensures bytes { out.new ≡ written (header width height shots) out.old }
 {
+    let mut width_digits = Buffer::new();
+    let mut height_digits = Buffer::new();
+    let mut shots_digits = Buffer::new();
     let pieces = [
-        Piece::Number(width),
-        Piece::Text(b" "),
-        Piece::Number(height),
-        Piece::Text(b" "),
-        Piece::Number(shots),
-        Piece::Text(b"\n"),
+        width_digits.format(width),
+        " ",
+        height_digits.format(height),
+        " ",
+        shots_digits.format(shots),
+        "\n",
     ];
     write_line(out, &pieces)
 }
@@ -153,39 +86,42 @@ pub fn write_refusal<R: Refusal>(
     ensures answer { told print_number result ≡ line_answer (refusal_line (R.Refusal.number cause.now) line column) out.old }
     ensures bytes { out.new ≡ written (refusal_line (R.Refusal.number cause.now) line column) out.old }
 {
+    let mut number_digits = Buffer::new();
+    let mut line_digits = Buffer::new();
+    let mut column_digits = Buffer::new();
     let pieces = [
-        Piece::Text(b"refused "),
-        Piece::Number(cause.number() as u32),
-        Piece::Text(b" line "),
-        Piece::Number(line),
-        Piece::Text(b" column "),
-        Piece::Number(column),
-        Piece::Text(b"\n"),
+        "refused ",
+        number_digits.format(cause.number()),
+        " line ",
+        line_digits.format(line),
+        " column ",
+        column_digits.format(column),
+        "\n",
     ];
     write_line(out, &pieces)
 }
 
 // The mark of a dot of the plate's window.
-fn mark_at<P: Plate>(plate: &mut P, x: i32, y: i32) -> u8
-    ensures value { inside (P.Plate.window plate.old) (x, y) ≡ true → result ≡ mark (P.Plate.lit plate.old (x, y)) }
+fn mark_at<P: Plate>(plate: &mut P, at: Dot) -> u8
+    ensures value { inside (P.Plate.window plate.old) at ≡ true → result ≡ mark (P.Plate.lit plate.old at) }
     ensures same { P.Plate.strikes plate.old [] plate.new }
 {
-    match plate.ask(x, y) {
+    match plate.ask(at) {
         Some(true) => b'#',
         _ => b'.',
     }
 }
 
-// Marks the dots from (x, y) to the right.
-fn put_marks<P: Plate>(plate: &mut P, mut x: i32, y: i32, count: usize, out: &mut [u8])
-    requires dots { (k : ℕ) → k < count → inside (P.Plate.window plate.old) (x +ℤ pos k, y) ≡ true }
-    requires room { count ≤ length out.old }
-    ensures bytes { out.new ≡ sets out.old 0 (marks (P.Plate.lit plate.old) count x y) }
+// Marks the dots of a row of a window. It writes by index: with `out.iter_mut().zip(..)` a proof does not learn what the bytes end as.
+fn put_marks<P: Plate>(plate: &mut P, window: Window, y: i32, out: &mut [u8])
+    requires whose { window ≡ P.Plate.window plate.old }
+    requires row { has_row window y ≡ true }
+    requires room { breadth window ≤ length out.old }
+    ensures bytes { out.new ≡ marks (P.Plate.lit plate.old) (breadth window) window.left y ++ drop (breadth window) out.old }
     ensures same { P.Plate.strikes plate.old [] plate.new }
 {
-    for at in 0..count {
-        out[at] = mark_at(plate, x, y);
-        x += 1;
+    for (at, x) in (window.left..=window.right).enumerate() {
+        out[at] = mark_at(plate, (x, y));
     }
 }
 
@@ -204,14 +140,14 @@ pub fn write_row<P: Plate>(plate: &mut P, y: i32, out: &mut [u8]) -> Result<usiz
     ensures same { P.Plate.strikes plate.old [] plate.new }
 {
     let window = plate.window();
-    if !window.contains(window.left, y) {
+    if !window.contains((window.left, y)) {
         return Err(PrintRefusal::Outside);
     }
     let count = row_len(window);
     if out.len() <= count {
         return Err(PrintRefusal::TooShort);
     }
-    put_marks(plate, window.left, y, count, out);
+    put_marks(plate, window, y, out);
     out[count] = b'\n';
     Ok(count + 1)
 }
