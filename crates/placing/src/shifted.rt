@@ -1,12 +1,20 @@
 // One shift, to the edges of the world and past them.
-use crate::bench::{
-    Bounds, Bytes, Dot, EMPTY, HEIGHT, Records, SHOTS, WHOLE, WIDTH, blank, bounds_of, is_unused,
-    lit_alone, lit_once, ones, refuses, takes, window_of,
-};
+use crate::bench::{Bench, Bounds, EMPTY, OnStrip, Pile, WHOLE};
+use crate::claims::{Claim, Hides, Lights, Shows};
 use crate::tally::Tally;
-use bitmap::Bitmap;
 use layer::shift_over;
-use strip::Strip;
+use plate::{Dot, Plate};
+
+// The shift by these numbers.
+#[derive(Clone, Copy)]
+pub(crate) struct Shifted(i32, i32);
+
+impl Pile for Shifted {
+    fn meets<P: Plate + Drop, C: Claim>(&self, plate: P, claim: &C) -> bool {
+        let Shifted(dx, dy) = *self;
+        claim.holds(&mut shift_over(dx, dy, plate))
+    }
+}
 
 // The bounds of a strip, a shift over it, and the window above.
 const STRIP_WINDOWS: [(Bounds, Dot, Bounds); 20] = [
@@ -39,207 +47,132 @@ const STRIP_WINDOWS: [(Bounds, Dot, Bounds); 20] = [
 ];
 
 // A shift over the bitmap, and the window above.
-const BITMAP_WINDOWS: [(Dot, Bounds); 11] = [
-    ((0, 0), (0, 0, 8, 4)),
-    ((32767, -32767), (-32767, 32767, -32759, 32767)),
-    ((-32767, 32767), (32767, -32767, 32767, -32763)),
-    ((32767, 32767), (-32767, -32767, -32759, -32763)),
-    ((-32767, -32767), (32767, 32767, 32767, 32767)),
-    ((1, 0), (-1, 0, 7, 4)),
-    ((0, -1), (0, 1, 8, 5)),
-    ((-5, 3), (5, -3, 13, 1)),
-    ((32768, 5), (0, 0, 8, 4)),
-    ((5, -32768), (0, 0, 8, 4)),
-    ((i32::MAX, i32::MIN), (0, 0, 8, 4)),
+pub(crate) const BITMAP_WINDOWS: [(Shifted, Shows); 11] = [
+    (Shifted(0, 0), Shows((0, 0, 8, 4))),
+    (
+        Shifted(32767, -32767),
+        Shows((-32767, 32767, -32759, 32767)),
+    ),
+    (
+        Shifted(-32767, 32767),
+        Shows((32767, -32767, 32767, -32763)),
+    ),
+    (
+        Shifted(32767, 32767),
+        Shows((-32767, -32767, -32759, -32763)),
+    ),
+    (Shifted(-32767, -32767), Shows((32767, 32767, 32767, 32767))),
+    (Shifted(1, 0), Shows((-1, 0, 7, 4))),
+    (Shifted(0, -1), Shows((0, 1, 8, 5))),
+    (Shifted(-5, 3), Shows((5, -3, 13, 1))),
+    (Shifted(32768, 5), Shows((0, 0, 8, 4))),
+    (Shifted(5, -32768), Shows((0, 0, 8, 4))),
+    (Shifted(i32::MAX, i32::MIN), Shows((0, 0, 8, 4))),
 ];
 
 // A shift over the whole strip, a dot that it shows, and the dot's place.
-const STRIP_DOTS: [(Dot, Dot, Dot); 14] = [
-    ((32767, -32767), (-32767, 0), (0, -32767)),
-    ((32767, -32767), (0, 32767), (32767, 0)),
-    ((32767, -32767), (0, 0), (32767, -32767)),
-    ((32767, -32767), (-32767, 32767), (0, 0)),
-    ((-32767, 32767), (0, 0), (-32767, 32767)),
-    ((-32767, 32767), (32767, -32767), (0, 0)),
-    ((-32767, 32767), (32767, 0), (0, 32767)),
-    ((1, 0), (32766, -32767), (32767, -32767)),
-    ((1, 0), (-32767, 5), (-32766, 5)),
-    ((0, -1), (4, -32766), (4, -32767)),
-    ((0, -1), (4, 32767), (4, 32766)),
-    ((32768, 7), (3, 4), (3, 4)),
-    ((7, -32768), (3, 4), (3, 4)),
-    ((i32::MAX, i32::MIN), (32767, -32767), (32767, -32767)),
+pub(crate) const STRIP_DOTS: [(Shifted, Lights); 14] = [
+    (Shifted(32767, -32767), Lights((-32767, 0), (0, -32767))),
+    (Shifted(32767, -32767), Lights((0, 32767), (32767, 0))),
+    (Shifted(32767, -32767), Lights((0, 0), (32767, -32767))),
+    (Shifted(32767, -32767), Lights((-32767, 32767), (0, 0))),
+    (Shifted(-32767, 32767), Lights((0, 0), (-32767, 32767))),
+    (Shifted(-32767, 32767), Lights((32767, -32767), (0, 0))),
+    (Shifted(-32767, 32767), Lights((32767, 0), (0, 32767))),
+    (Shifted(1, 0), Lights((32766, -32767), (32767, -32767))),
+    (Shifted(1, 0), Lights((-32767, 5), (-32766, 5))),
+    (Shifted(0, -1), Lights((4, -32766), (4, -32767))),
+    (Shifted(0, -1), Lights((4, 32767), (4, 32766))),
+    (Shifted(32768, 7), Lights((3, 4), (3, 4))),
+    (Shifted(7, -32768), Lights((3, 4), (3, 4))),
+    (
+        Shifted(i32::MAX, i32::MIN),
+        Lights((32767, -32767), (32767, -32767)),
+    ),
 ];
 
 // The same over the bitmap.
-const BITMAP_DOTS: [(Dot, Dot, Dot); 15] = [
-    ((32767, -32767), (-32767, 32767), (0, 0)),
-    ((32767, -32767), (-32759, 32767), (8, 0)),
-    ((-32767, 32767), (32767, -32767), (0, 0)),
-    ((-32767, 32767), (32767, -32763), (0, 4)),
-    ((32767, 32767), (-32760, -32764), (7, 3)),
-    ((-32767, -32767), (32767, 32767), (0, 0)),
-    ((1, 0), (-1, 0), (0, 0)),
-    ((1, 0), (7, 4), (8, 4)),
-    ((0, -1), (3, 5), (3, 4)),
-    ((0, -1), (8, 1), (8, 0)),
-    ((-5, 3), (13, 1), (8, 4)),
-    ((-5, 3), (5, -3), (0, 0)),
-    ((32768, 1), (8, 4), (8, 4)),
-    ((1, -32768), (3, 2), (3, 2)),
-    ((i32::MIN, i32::MAX), (1, 3), (1, 3)),
+pub(crate) const BITMAP_DOTS: [(Shifted, Lights); 15] = [
+    (Shifted(32767, -32767), Lights((-32767, 32767), (0, 0))),
+    (Shifted(32767, -32767), Lights((-32759, 32767), (8, 0))),
+    (Shifted(-32767, 32767), Lights((32767, -32767), (0, 0))),
+    (Shifted(-32767, 32767), Lights((32767, -32763), (0, 4))),
+    (Shifted(32767, 32767), Lights((-32760, -32764), (7, 3))),
+    (Shifted(-32767, -32767), Lights((32767, 32767), (0, 0))),
+    (Shifted(1, 0), Lights((-1, 0), (0, 0))),
+    (Shifted(1, 0), Lights((7, 4), (8, 4))),
+    (Shifted(0, -1), Lights((3, 5), (3, 4))),
+    (Shifted(0, -1), Lights((8, 1), (8, 0))),
+    (Shifted(-5, 3), Lights((13, 1), (8, 4))),
+    (Shifted(-5, 3), Lights((5, -3), (0, 0))),
+    (Shifted(32768, 1), Lights((8, 4), (8, 4))),
+    (Shifted(1, -32768), Lights((3, 2), (3, 2))),
+    (Shifted(i32::MIN, i32::MAX), Lights((1, 3), (1, 3))),
 ];
 
 // A shift over the whole strip, and a dot that it does not show.
-const OUTSIDE_STRIP: [(Dot, Dot); 25] = [
-    ((32767, -32767), (1, 0)),
-    ((32767, -32767), (0, -1)),
-    ((32767, -32767), (-32768, 0)),
-    ((32767, -32767), (0, 32768)),
-    ((32767, -32767), (i32::MAX, 0)),
-    ((32767, -32767), (i32::MIN, 0)),
-    ((32767, -32767), (0, i32::MAX)),
-    ((32767, -32767), (0, i32::MIN)),
-    ((32767, -32767), (i32::MAX, i32::MAX)),
-    ((32767, -32767), (i32::MIN, i32::MIN)),
-    ((32767, -32767), (i32::MAX, i32::MIN)),
-    ((32767, -32767), (i32::MIN, i32::MAX)),
-    ((-32767, 32767), (-1, 0)),
-    ((-32767, 32767), (0, 1)),
-    ((-32767, 32767), (32768, 0)),
-    ((-32767, 32767), (0, -32768)),
-    ((-32767, 32767), (i32::MAX, i32::MIN)),
-    ((-32767, 32767), (i32::MIN, i32::MAX)),
-    ((1, 0), (32767, 0)),
-    ((1, 0), (-32768, 0)),
-    ((1, 0), (i32::MAX, 0)),
-    ((1, 0), (i32::MIN, 0)),
-    ((32768, 0), (32768, 0)),
-    ((32768, 0), (-32768, 0)),
-    ((32768, 0), (i32::MAX, i32::MIN)),
+pub(crate) const OUTSIDE_STRIP: [(Shifted, Hides); 25] = [
+    (Shifted(32767, -32767), Hides((1, 0))),
+    (Shifted(32767, -32767), Hides((0, -1))),
+    (Shifted(32767, -32767), Hides((-32768, 0))),
+    (Shifted(32767, -32767), Hides((0, 32768))),
+    (Shifted(32767, -32767), Hides((i32::MAX, 0))),
+    (Shifted(32767, -32767), Hides((i32::MIN, 0))),
+    (Shifted(32767, -32767), Hides((0, i32::MAX))),
+    (Shifted(32767, -32767), Hides((0, i32::MIN))),
+    (Shifted(32767, -32767), Hides((i32::MAX, i32::MAX))),
+    (Shifted(32767, -32767), Hides((i32::MIN, i32::MIN))),
+    (Shifted(32767, -32767), Hides((i32::MAX, i32::MIN))),
+    (Shifted(32767, -32767), Hides((i32::MIN, i32::MAX))),
+    (Shifted(-32767, 32767), Hides((-1, 0))),
+    (Shifted(-32767, 32767), Hides((0, 1))),
+    (Shifted(-32767, 32767), Hides((32768, 0))),
+    (Shifted(-32767, 32767), Hides((0, -32768))),
+    (Shifted(-32767, 32767), Hides((i32::MAX, i32::MIN))),
+    (Shifted(-32767, 32767), Hides((i32::MIN, i32::MAX))),
+    (Shifted(1, 0), Hides((32767, 0))),
+    (Shifted(1, 0), Hides((-32768, 0))),
+    (Shifted(1, 0), Hides((i32::MAX, 0))),
+    (Shifted(1, 0), Hides((i32::MIN, 0))),
+    (Shifted(32768, 0), Hides((32768, 0))),
+    (Shifted(32768, 0), Hides((-32768, 0))),
+    (Shifted(32768, 0), Hides((i32::MAX, i32::MIN))),
 ];
 
 // The same over the bitmap; some have a place on it, and lie outside the world.
-const OUTSIDE_BITMAP: [(Dot, Dot); 25] = [
-    ((32767, -32767), (-32758, 32767)),
-    ((32767, -32767), (-32767, 32766)),
-    ((32767, -32767), (-32767, 32768)),
-    ((32767, -32767), (-32768, 32767)),
-    ((32767, -32767), (0, 0)),
-    ((32767, -32767), (i32::MAX, i32::MIN)),
-    ((32767, -32767), (i32::MIN, i32::MAX)),
-    ((-32767, 32767), (32768, -32767)),
-    ((-32767, 32767), (32766, -32767)),
-    ((-32767, 32767), (32767, -32762)),
-    ((-32767, 32767), (32767, -32768)),
-    ((-32767, 32767), (i32::MAX, i32::MIN)),
-    ((-32767, 32767), (i32::MIN, i32::MAX)),
-    ((1, 0), (8, 0)),
-    ((1, 0), (-2, 0)),
-    ((1, 0), (-1, -1)),
-    ((1, 0), (-1, 5)),
-    ((1, 0), (i32::MAX, 0)),
-    ((1, 0), (i32::MIN, 0)),
-    ((1, 0), (0, i32::MAX)),
-    ((1, 0), (0, i32::MIN)),
-    ((32768, 0), (9, 0)),
-    ((32768, 0), (-1, 0)),
-    ((32768, 0), (-32768, 0)),
-    ((32768, 0), (i32::MAX, i32::MIN)),
+pub(crate) const OUTSIDE_BITMAP: [(Shifted, Hides); 25] = [
+    (Shifted(32767, -32767), Hides((-32758, 32767))),
+    (Shifted(32767, -32767), Hides((-32767, 32766))),
+    (Shifted(32767, -32767), Hides((-32767, 32768))),
+    (Shifted(32767, -32767), Hides((-32768, 32767))),
+    (Shifted(32767, -32767), Hides((0, 0))),
+    (Shifted(32767, -32767), Hides((i32::MAX, i32::MIN))),
+    (Shifted(32767, -32767), Hides((i32::MIN, i32::MAX))),
+    (Shifted(-32767, 32767), Hides((32768, -32767))),
+    (Shifted(-32767, 32767), Hides((32766, -32767))),
+    (Shifted(-32767, 32767), Hides((32767, -32762))),
+    (Shifted(-32767, 32767), Hides((32767, -32768))),
+    (Shifted(-32767, 32767), Hides((i32::MAX, i32::MIN))),
+    (Shifted(-32767, 32767), Hides((i32::MIN, i32::MAX))),
+    (Shifted(1, 0), Hides((8, 0))),
+    (Shifted(1, 0), Hides((-2, 0))),
+    (Shifted(1, 0), Hides((-1, -1))),
+    (Shifted(1, 0), Hides((-1, 5))),
+    (Shifted(1, 0), Hides((i32::MAX, 0))),
+    (Shifted(1, 0), Hides((i32::MIN, 0))),
+    (Shifted(1, 0), Hides((0, i32::MAX))),
+    (Shifted(1, 0), Hides((0, i32::MIN))),
+    (Shifted(32768, 0), Hides((9, 0))),
+    (Shifted(32768, 0), Hides((-1, 0))),
+    (Shifted(32768, 0), Hides((-32768, 0))),
+    (Shifted(32768, 0), Hides((i32::MAX, i32::MIN))),
 ];
 
-fn window_on_a_strip(bounds: Bounds, by: Dot) -> Bounds {
-    let mut records: Records = [blank(); 2];
-    let strip = Strip::new(window_of(bounds), &mut records);
-    bounds_of(&mut shift_over(by.0, by.1, strip))
-}
-
-fn window_on_a_bitmap(by: Dot) -> Bounds {
-    let mut bytes: Bytes = [0; 10];
-    let bitmap = Bitmap::new(WIDTH, HEIGHT, SHOTS, &mut bytes);
-    bounds_of(&mut shift_over(by.0, by.1, bitmap))
-}
-
-fn struck_on_a_strip(by: Dot, above: Dot, below: Dot) -> bool {
-    let mut records: Records = [blank(); 2];
-    let answered = {
-        let strip = Strip::new(window_of(WHOLE), &mut records);
-        takes(&mut shift_over(by.0, by.1, strip), above, below)
-    };
-    answered && lit_once(&records, below)
-}
-
-fn struck_on_a_bitmap(by: Dot, above: Dot, below: Dot) -> bool {
-    let mut bytes: Bytes = [0; 10];
-    let answered = {
-        let bitmap = Bitmap::new(WIDTH, HEIGHT, SHOTS, &mut bytes);
-        takes(&mut shift_over(by.0, by.1, bitmap), above, below)
-    };
-    answered && lit_alone(&mut bytes, below)
-}
-
-fn refused_on_a_strip(by: Dot, at: Dot) -> bool {
-    let mut records: Records = [blank(); 2];
-    let answered = {
-        let strip = Strip::new(window_of(WHOLE), &mut records);
-        refuses(&mut shift_over(by.0, by.1, strip), at)
-    };
-    answered && is_unused(&records)
-}
-
-fn refused_on_a_bitmap(by: Dot, at: Dot) -> bool {
-    let mut bytes: Bytes = [0; 10];
-    let answered = {
-        let bitmap = Bitmap::new(WIDTH, HEIGHT, SHOTS, &mut bytes);
-        refuses(&mut shift_over(by.0, by.1, bitmap), at)
-    };
-    answered && ones(&bytes) == 0
-}
-
-pub(crate) fn shifted_windows_on_a_strip() -> Tally {
-    let mut tally = Tally::none();
-    for (bounds, by, window) in STRIP_WINDOWS {
-        tally = tally.with(window_on_a_strip(bounds, by) == window);
-    }
-    tally
-}
-
-pub(crate) fn shifted_windows_on_a_bitmap() -> Tally {
-    let mut tally = Tally::none();
-    for (by, window) in BITMAP_WINDOWS {
-        tally = tally.with(window_on_a_bitmap(by) == window);
-    }
-    tally
-}
-
-pub(crate) fn shifts_on_a_strip() -> Tally {
-    let mut tally = Tally::none();
-    for (by, above, below) in STRIP_DOTS {
-        tally = tally.with(struck_on_a_strip(by, above, below));
-    }
-    tally
-}
-
-pub(crate) fn shifts_on_a_bitmap() -> Tally {
-    let mut tally = Tally::none();
-    for (by, above, below) in BITMAP_DOTS {
-        tally = tally.with(struck_on_a_bitmap(by, above, below));
-    }
-    tally
-}
-
-pub(crate) fn dots_outside_shifts_on_a_strip() -> Tally {
-    let mut tally = Tally::none();
-    for (by, at) in OUTSIDE_STRIP {
-        tally = tally.with(refused_on_a_strip(by, at));
-    }
-    tally
-}
-
-pub(crate) fn dots_outside_shifts_on_a_bitmap() -> Tally {
-    let mut tally = Tally::none();
-    for (by, at) in OUTSIDE_BITMAP {
-        tally = tally.with(refused_on_a_bitmap(by, at));
-    }
-    tally
+// Each row has a strip of its own.
+pub(crate) fn windows_on_strips() -> Tally {
+    STRIP_WINDOWS
+        .iter()
+        .fold(Tally::default(), |tally, (bounds, (dx, dy), window)| {
+            tally.with(OnStrip(*bounds).tries(&Shifted(*dx, *dy), &Shows(*window)))
+        })
 }

@@ -1,18 +1,23 @@
 // What came of trying the rows of a table.
 ghost use Rattle.std.specs.Prelude.{◌≡◌, ◌+◌, min, if◌then◌else◌};
 
+use crate::bench::{Bench, Pile};
+use crate::claims::Claim;
+use std::fmt;
+
 // How many rows were tried, and how many of them came out as the table says.
-#[derive(Clone, Copy)]
+#[derive(Clone, Copy, Default)]
 pub(crate) struct Tally {
     pub(crate) tried: u32,
     pub(crate) right: u32,
 }
 
 impl Tally {
-    pub(crate) fn none() -> Tally
-        ensures { (result.tried ≡ 0) × (result.right ≡ 0) }
-    {
-        Tally { tried: 0, right: 0 }
+    // Asks each row's claim of its pile.
+    pub(crate) fn of<B: Bench, P: Pile, C: Claim>(bench: &B, rows: &[(P, C)]) -> Tally {
+        rows.iter().fold(Tally::default(), |tally, (pile, claim)| {
+            tally.with(bench.tries(pile, claim))
+        })
     }
 
     // One row more.
@@ -20,14 +25,9 @@ impl Tally {
         ensures tried { result.tried ≡ min 4294967295 (self.tried + 1) }
         ensures right { result.right ≡ (if came then min 4294967295 (self.right + 1) else self.right) }
     {
-        let right = if came {
-            self.right.saturating_add(1)
-        } else {
-            self.right
-        };
         Tally {
             tried: self.tried.saturating_add(1),
-            right,
+            right: self.right.saturating_add(u32::from(came)),
         }
     }
 
@@ -40,5 +40,12 @@ impl Tally {
             tried: self.tried.saturating_add(more.tried),
             right: self.right.saturating_add(more.right),
         }
+    }
+}
+
+impl fmt::Display for Tally {
+    fn fmt<W: fmt::Write>(&self, f: &mut fmt::Formatter<W>) -> fmt::Result {
+        let Tally { tried, right } = *self;
+        write!(f, "{right} of {tried} right")
     }
 }
