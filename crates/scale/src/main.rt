@@ -5,12 +5,12 @@
 ghost use Rattle.std.specs.Prelude.{IfOk, OnOk};
 ghost use Rattle.scale.specs.Scale.{Spent};
 
-use anyhow::anyhow;
+use anyhow::Context;
 use bitmap::Bitmap;
 use figure::{FigureRefusal, line};
 use layer::{mask_over, shift_over, turn_over};
 use pile::line_below;
-use plate::{Ink, Plate, Window};
+use plate::{Dot, Ink, Plate, Window};
 use report::{write_header, write_row};
 use std::io::Write;
 
@@ -35,7 +35,7 @@ const SHOWN: Window = Window {
 };
 
 // What was struck so far.
-#[derive(Clone, Copy)]
+#[derive(Clone, Copy, Debug, Default, PartialEq, Eq)]
 struct Tally {
     lines: u32,
     dots: u32,
@@ -56,8 +56,8 @@ fn tick_top(x: i32) -> i32 {
 fn add_line<P: Plate>(
     plate: &mut P,
     tally: &mut Tally,
-    from: (i32, i32),
-    to: (i32, i32),
+    from: Dot,
+    to: Dot,
 ) -> Result<(), FigureRefusal>
     ensures { OnOk result (Spent tally.old.dots (P.Plate.shots plate.old) tally.new.dots (P.Plate.shots plate.new)) }
 {
@@ -71,8 +71,9 @@ fn add_line<P: Plate>(
 fn mark_scale<P: Plate>(plate: &mut P) -> Result<Tally, FigureRefusal>
     ensures { IfOk result (λ tally. Spent 0 (P.Plate.shots plate.old) tally.dots (P.Plate.shots plate.new)) }
 {
-    let mut tally = Tally { lines: 0, dots: 0 };
+    let mut tally = Tally::default();
     add_line(plate, &mut tally, (0, BASE), (LAST, BASE))?;
+    // Tried: `(0..=LAST).step_by(2)`, of which the check does not find that it ends, and twice a number of `0..=LAST / 2`, which may not fit for all that it finds.
     for step in 0..21u32 {
         let x = 2 * step as i32;
         add_line(plate, &mut tally, (x, BASE - 1), (x, tick_top(x)))?;
@@ -81,18 +82,14 @@ fn mark_scale<P: Plate>(plate: &mut P) -> Result<Tally, FigureRefusal>
 }
 
 fn print_line(rt: &HostRuntime, out: &[u8], len: usize) -> anyhow::Result<()> {
-    if len > out.len() {
-        return Err(anyhow!("a line is longer than its bytes"));
-    }
-    rt.stdout().write_all(&out[0..len])?;
+    let line = out.get(..len).context("a line is longer than its bytes")?;
+    rt.stdout().write_all(line)?;
     Ok(())
 }
 
 fn print_header(rt: &HostRuntime, width: u32, height: u32, shots: u32) -> anyhow::Result<()> {
     let mut out = [0u8; 40];
-    let Ok(len) = write_header(&mut out, width, height, shots) else {
-        return Err(anyhow!("no room for the header"));
-    };
+    let len = write_header(&mut out, width, height, shots).context("no room for the header")?;
     print_line(rt, &out, len)
 }
 
@@ -109,40 +106,36 @@ fn print_row(
         left[41] = b' ';
     }
     print_line(rt, &left, 43)?;
-    let Ok(len) = write_row(turned, y, &mut right) else {
-        return Err(anyhow!("a row was refused"));
-    };
+    let len = write_row(turned, y, &mut right).context("a row was refused")?;
     print_line(rt, &right, len)
 }
 
 fn print_plates(rt: &HostRuntime, bare: &mut Bitmap, turned: &mut Bitmap) -> anyhow::Result<()> {
     print_header(rt, BREADTH, HEIGHT, bare.shots())?;
     print_header(rt, HEIGHT, BREADTH, turned.shots())?;
-    for y in 0..41 {
+    for y in 0..=LAST {
         print_row(rt, bare, turned, y)?;
     }
     Ok(())
 }
 
 // What a pile did with the scale.
-#[derive(Clone, Copy)]
+#[derive(Clone, Copy, Debug, PartialEq, Eq)]
 struct Placed {
     tally: Tally,
     left: u32,
-    base: ((i32, i32), (i32, i32)),
+    base: (Dot, Dot),
 }
 
 // Marks the scale through a mask over turn 1 over a shift that brings the turned dots back to the plate.
 fn mark_turned(bytes: &mut [u8]) -> anyhow::Result<Placed> {
     let below = shift_over(BASE, 0, Bitmap::new(HEIGHT, BREADTH, SHOTS, bytes));
     let mut pile = mask_over(SHOWN, turn_over(1, below));
-    let Ok(tally) = mark_scale(&mut pile) else {
-        return Err(anyhow!("the turned scale was refused"));
-    };
+    let tally = mark_scale(&mut pile).context("the turned scale was refused")?;
     let left = pile.shots();
-    let Some(base) = line_below(&mut pile, (0, BASE), (LAST, BASE)) else {
-        return Err(anyhow!("the base line lies too far away"));
-    };
+    let base = line_below(&mut pile, (0, BASE), (LAST, BASE)).context(
+        "the base line lies too far away",
+    )?;
     Ok(Placed { tally, left, base })
 }
 
@@ -165,9 +158,7 @@ fn run(rt: &HostRuntime) -> anyhow::Result<()> {
     let mut bytes = [0u8; 54];
     let mut others = [0u8; 82];
     let mut bare = Bitmap::new(BREADTH, HEIGHT, SHOTS, &mut bytes);
-    let Ok(tally) = mark_scale(&mut bare) else {
-        return Err(anyhow!("the scale was refused"));
-    };
+    let tally = mark_scale(&mut bare).context("the scale was refused")?;
     let placed = mark_turned(&mut others)?;
     let mut turned = Bitmap::new(HEIGHT, BREADTH, placed.left, &mut others);
     print_plates(rt, &mut bare, &mut turned)?;

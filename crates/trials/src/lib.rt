@@ -11,13 +11,11 @@ mod tests {
     use pile::{exchanges_axes, place_of};
     use plate::{Ink, Plate, Refusal, StrikeRefusal, Window};
     use report::{write_header, write_refusal, write_row};
-    use std::test::Fail;
     use strip::{Record, Strip};
 
     fn blank() -> Record {
         Record {
-            x: 0,
-            y: 0,
+            at: (0, 0),
             ink: Ink::Clear,
         }
     }
@@ -31,8 +29,9 @@ mod tests {
         }
     }
 
-    fn is_at(record: Record, x: i32, y: i32) -> bool {
-        record.x == x && record.y == y
+    // What came of a call, a refusal told by its number.
+    fn told<T, R: Refusal + Copy>(answer: Result<T, R>) -> Result<T, u8> {
+        answer.map_err(|cause| cause.number())
     }
 
     // A crossing halfway between two dots goes away from the start.
@@ -41,60 +40,54 @@ mod tests {
         let mut records = [blank(); 10];
         {
             let mut strip = Strip::new(bounds(), &mut records);
-            assert!(rt; matches!(line(&mut strip, (0, 0), (4, 2), Ink::Light), Ok(5)));
-            assert!(rt; matches!(line(&mut strip, (4, 2), (0, 0), Ink::Clear), Ok(5)));
+            assert_eq!(rt; line(&mut strip, (0, 0), (4, 2), Ink::Light), Ok(5));
+            assert_eq!(rt; line(&mut strip, (4, 2), (0, 0), Ink::Clear), Ok(5));
         }
-        assert!(rt; is_at(records[0], 0, 0));
-        assert!(rt; is_at(records[1], 1, 1));
-        assert!(rt; is_at(records[2], 2, 1));
-        assert!(rt; is_at(records[3], 3, 2));
-        assert!(rt; is_at(records[4], 4, 2));
-        assert!(rt; is_at(records[5], 4, 2));
-        assert!(rt; is_at(records[6], 3, 1));
-        assert!(rt; is_at(records[7], 2, 1));
-        assert!(rt; is_at(records[8], 1, 0));
-        assert!(rt; is_at(records[9], 0, 0));
+        let dots = [
+            (0, 0),
+            (1, 1),
+            (2, 1),
+            (3, 2),
+            (4, 2),
+            (4, 2),
+            (3, 1),
+            (2, 1),
+            (1, 0),
+            (0, 0),
+        ];
+        for (record, dot) in records.iter().zip(dots) {
+            assert_eq!(rt; record.at, dot);
+        }
     }
 
     // The last place takes one strike, and then there are no shots.
     #[test]
-    fn strip_is_full_at_its_last_place(rt: HostRuntime) -> Result<(), Fail> {
+    fn strip_is_full_at_its_last_place(rt: HostRuntime) {
         let mut records = [blank(); 2];
         let mut strip = Strip::new(bounds(), &mut records);
-        assert!(rt; strip.strike(1, 1, Ink::Light).is_ok());
-        assert!(rt; strip.strike(1, 1, Ink::Flip).is_ok());
+        assert!(rt; strip.strike((1, 1), Ink::Light).is_ok());
+        assert!(rt; strip.strike((1, 1), Ink::Flip).is_ok());
         assert_eq!(rt; strip.shots(), 0);
-        assert_eq!(rt; strip.ask(1, 1), Some(false));
-        let Err(outside) = strip.strike(10, 1, Ink::Light) else {
-            return Err(Fail::new("struck outside"));
-        };
-        assert_eq!(rt; outside.number(), 20);
-        let Err(spent) = strip.strike(1, 1, Ink::Light) else {
-            return Err(Fail::new("struck without shots"));
-        };
-        assert_eq!(rt; spent.number(), 21);
-        Ok(())
+        assert_eq!(rt; strip.ask((1, 1)), Some(false));
+        assert_eq!(rt; told(strip.strike((10, 1), Ink::Light)), Err(20));
+        assert_eq!(rt; told(strip.strike((1, 1), Ink::Light)), Err(21));
     }
 
     // 22 is judged by the dots that the window shows.
     #[test]
-    fn line_through_a_bitmap(rt: HostRuntime) -> Result<(), Fail> {
+    fn line_through_a_bitmap(rt: HostRuntime) {
         let mut bytes = [0u8; 4];
         let mut out = [b'-'; 8];
         let mut bitmap = Bitmap::new(6, 4, 5, &mut bytes);
-        assert!(rt; matches!(line(&mut bitmap, (-3, 1), (4, 1), Ink::Light), Ok(5)));
-        let Err(few) = line(&mut bitmap, (-3, 2), (4, 2), Ink::Light) else {
-            return Err(Fail::new("struck without shots"));
-        };
-        assert_eq!(rt; few.number(), 22);
-        assert!(rt; matches!(line(&mut bitmap, (9, 9), (20, 9), Ink::Light), Ok(0)));
-        assert!(rt; matches!(write_row(&mut bitmap, 1, &mut out), Ok(7)));
+        assert_eq!(rt; line(&mut bitmap, (-3, 1), (4, 1), Ink::Light), Ok(5));
+        assert_eq!(rt;
+            told(line(&mut bitmap, (-3, 2), (4, 2), Ink::Light)),
+            Err(22)
+        );
+        assert_eq!(rt; line(&mut bitmap, (9, 9), (20, 9), Ink::Light), Ok(0));
+        assert_eq!(rt; write_row(&mut bitmap, 1, &mut out), Ok(7));
         assert_eq!(rt; &out, b"#####.\n-");
-        let Err(outside) = write_row(&mut bitmap, 4, &mut []) else {
-            return Err(Fail::new("printed a row outside"));
-        };
-        assert_eq!(rt; outside.number(), 20);
-        Ok(())
+        assert_eq!(rt; told(write_row(&mut bitmap, 4, &mut [])), Err(20));
     }
 
     // Ten dots to a row leave six spare bits, and the fifth byte lies past two rows.
@@ -102,16 +95,16 @@ mod tests {
     fn inks_at_the_edges_of_bytes(rt: HostRuntime) {
         let mut bytes = [0x00, 0x3f, 0x01, 0xbf, 0x5a];
         let mut bitmap = Bitmap::new(10, 2, 4, &mut bytes);
-        for (x, y, ink) in [
-            (7, 0, Ink::Light),
-            (8, 0, Ink::Flip),
-            (7, 1, Ink::Clear),
-            (0, 1, Ink::Flip),
+        for (dot, ink) in [
+            ((7, 0), Ink::Light),
+            ((8, 0), Ink::Flip),
+            ((7, 1), Ink::Clear),
+            ((0, 1), Ink::Flip),
         ] {
-            assert!(rt; bitmap.strike(x, y, ink).is_ok());
+            assert!(rt; bitmap.strike(dot, ink).is_ok());
         }
-        assert_eq!(rt; bitmap.ask(8, 0), Some(true));
-        assert_eq!(rt; bitmap.ask(10, 0), None);
+        assert_eq!(rt; bitmap.ask((8, 0)), Some(true));
+        assert_eq!(rt; bitmap.ask((10, 0)), None);
         assert_eq!(rt; bytes, [0x01, 0xbf, 0x80, 0xbf, 0x5a]);
     }
 
@@ -127,24 +120,20 @@ mod tests {
     }
 
     #[test]
-    fn header_needs_all_its_bytes(rt: HostRuntime) -> Result<(), Fail> {
+    fn header_needs_all_its_bytes(rt: HostRuntime) {
         let mut out = [b'-'; 12];
-        assert!(rt; matches!(write_header(&mut out, 120, 80, 4000), Ok(12)));
+        assert_eq!(rt; write_header(&mut out, 120, 80, 4000), Ok(12));
         assert_eq!(rt; &out, b"120 80 4000\n");
         let mut short = [b'-'; 11];
-        let Err(cause) = write_header(&mut short, 120, 80, 4000) else {
-            return Err(Fail::new("written"));
-        };
-        assert_eq!(rt; cause.number(), 11);
+        assert_eq!(rt; told(write_header(&mut short, 120, 80, 4000)), Err(11));
         assert_eq!(rt; &short, b"-----------");
-        Ok(())
     }
 
     #[test]
     fn refusal_keeps_the_bytes_after_it(rt: HostRuntime) {
         let mut out = [b'-'; 30];
         let cause = StrikeRefusal::Outside;
-        assert!(rt; matches!(write_refusal(&mut out, &cause, 7, 10), Ok(28)));
+        assert_eq!(rt; write_refusal(&mut out, &cause, 7, 10), Ok(28));
         assert_eq!(rt; &out, b"refused 20 line 7 column 10\n--");
     }
 
@@ -159,12 +148,12 @@ mod tests {
             bottom: 15,
         };
         let mut pile = mask_over(shown, quarter);
-        assert!(rt; matches!(line(&mut pile, (0, 3), (9, 3), Ink::Light), Ok(8)));
-        assert!(rt; matches!(line(&mut pile, (5, 0), (5, 15), Ink::Flip), Ok(16)));
-        assert_eq!(rt; pile.ask(1, 3), None);
-        assert_eq!(rt; pile.ask(2, 3), Some(true));
-        assert_eq!(rt; pile.ask(5, 3), Some(false));
-        assert_eq!(rt; pile.ask(5, 4), Some(true));
+        assert_eq!(rt; line(&mut pile, (0, 3), (9, 3), Ink::Light), Ok(8));
+        assert_eq!(rt; line(&mut pile, (5, 0), (5, 15), Ink::Flip), Ok(16));
+        assert_eq!(rt; pile.ask((1, 3)), None);
+        assert_eq!(rt; pile.ask((2, 3)), Some(true));
+        assert_eq!(rt; pile.ask((5, 3)), Some(false));
+        assert_eq!(rt; pile.ask((5, 4)), Some(true));
         assert_eq!(rt; pile.shots(), 16);
         assert_eq!(rt; place_of(&mut pile, (9, 3)), Some((12, 9)));
         assert!(rt; exchanges_axes(&mut pile));
@@ -172,18 +161,15 @@ mod tests {
 
     // A circle of radius 4 has 24 dots, 7 of them in its last quarter with the axes.
     #[test]
-    fn circle_by_its_shots(rt: HostRuntime) -> Result<(), Fail> {
+    fn circle_by_its_shots(rt: HostRuntime) {
         let mut bytes = [0u8; 18];
         {
             let mut short = Bitmap::new(9, 9, 23, &mut bytes);
-            let Err(few) = circle(&mut short, (4, 4), 4, Ink::Light) else {
-                return Err(Fail::new("struck without shots"));
-            };
-            assert_eq!(rt; few.number(), 22);
+            assert_eq!(rt; told(circle(&mut short, (4, 4), 4, Ink::Light)), Err(22));
         }
         assert_eq!(rt; bytes, [0u8; 18]);
         let mut bare = Bitmap::new(9, 9, 24, &mut bytes);
-        assert!(rt; matches!(circle(&mut bare, (4, 4), 4, Ink::Light), Ok(24)));
+        assert_eq!(rt; circle(&mut bare, (4, 4), 4, Ink::Light), Ok(24));
         assert_eq!(rt; bare.shots(), 0);
         let quarter = Window {
             left: 4,
@@ -195,12 +181,11 @@ mod tests {
         let mut six = mask_over(quarter, Bitmap::new(9, 9, 6, &mut other));
         assert!(rt; circle(&mut six, (4, 4), 4, Ink::Light).is_err());
         let mut seven = mask_over(quarter, Bitmap::new(9, 9, 7, &mut other));
-        assert!(rt; matches!(circle(&mut seven, (4, 4), 4, Ink::Light), Ok(7)));
-        Ok(())
+        assert_eq!(rt; circle(&mut seven, (4, 4), 4, Ink::Light), Ok(7));
     }
 
     #[test]
-    fn ellipses_by_their_counts(rt: HostRuntime) -> Result<(), Fail> {
+    fn ellipses_by_their_counts(rt: HostRuntime) {
         let mut records = [blank(); 200];
         let wide = Window {
             left: -20,
@@ -209,21 +194,20 @@ mod tests {
             bottom: 20,
         };
         let mut strip = Strip::new(wide, &mut records);
-        assert!(rt; matches!(outline(&mut strip, (0, 0), 4, 1, Ink::Light), Ok(16)));
-        assert!(rt; matches!(outline(&mut strip, (0, 0), 7, 1, Ink::Light), Ok(28)));
-        assert!(rt; matches!(outline(&mut strip, (0, 0), 8, 1, Ink::Light), Ok(30)));
-        assert!(rt; matches!(outline(&mut strip, (0, 0), 15, 1, Ink::Light), Ok(56)));
-        assert!(rt; matches!(outline(&mut strip, (0, 0), 0, 3, Ink::Light), Ok(7)));
-        assert!(rt; matches!(outline(&mut strip, (0, 0), 0, 0, Ink::Light), Ok(1)));
-        assert!(rt; matches!(filled(&mut strip, (0, 0), 4, 4, Ink::Light), Ok(61)));
-        let Err(axis) = outline(&mut strip, (0, 0), 4096, 1, Ink::Light) else {
-            return Err(Fail::new("a semi-axis too long"));
-        };
-        assert_eq!(rt; axis.number(), 2);
-        let Err(centre) = outline(&mut strip, (32768, 0), -1, 1, Ink::Light) else {
-            return Err(Fail::new("a centre out of the world"));
-        };
-        assert_eq!(rt; centre.number(), 1);
-        Ok(())
+        assert_eq!(rt; outline(&mut strip, (0, 0), 4, 1, Ink::Light), Ok(16));
+        assert_eq!(rt; outline(&mut strip, (0, 0), 7, 1, Ink::Light), Ok(28));
+        assert_eq!(rt; outline(&mut strip, (0, 0), 8, 1, Ink::Light), Ok(30));
+        assert_eq!(rt; outline(&mut strip, (0, 0), 15, 1, Ink::Light), Ok(56));
+        assert_eq!(rt; outline(&mut strip, (0, 0), 0, 3, Ink::Light), Ok(7));
+        assert_eq!(rt; outline(&mut strip, (0, 0), 0, 0, Ink::Light), Ok(1));
+        assert_eq!(rt; filled(&mut strip, (0, 0), 4, 4, Ink::Light), Ok(61));
+        assert_eq!(rt;
+            told(outline(&mut strip, (0, 0), 4096, 1, Ink::Light)),
+            Err(2)
+        );
+        assert_eq!(rt;
+            told(outline(&mut strip, (32768, 0), -1, 1, Ink::Light)),
+            Err(1)
+        );
     }
 }
