@@ -37,7 +37,7 @@ fn is_side(n: u32) -> bool
     (1..=8192).contains(&n)
 }
 
-// Width and height stay two numbers: each use but this one needs just one of them, and every public call would have to build a type of the two.
+// Width and height stay two numbers: what is computed from them, but for this, needs just one of them at a time, and a caller of `check` and `new` would have to build a type first.
 fn is_sized(width: u32, height: u32, bytes: usize) -> bool
     ensures { result ≡ sized width height bytes }
 {

@@ -78,7 +78,7 @@ impl SemiAxes {
     }
 }
 
-// From two numbers as they are given.
+// From two numbers as they are given: the public calls name them one by one, and here they become a type.
 impl TryFrom<(i32, i32)> for SemiAxes {
     type Error = FigureRefusal;
 

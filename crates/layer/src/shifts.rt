@@ -57,6 +57,7 @@ impl Shifting {
 }
 
 // The window above a shift by numbers of the world, by the window that these bounds make below.
+// They come one by one: with a `Dot` the check did not find that each of its two numbers is one of the world.
 #[tactic(auto, using(crate::proofs::Bounds::world_apart))]
 fn window_above(dx: i32, dy: i32, below: Window) -> Window
     requires { world (dx, dy) ≡ true }
