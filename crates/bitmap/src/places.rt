@@ -14,7 +14,7 @@ pub(crate) fn row_bytes(width: u32) -> usize
 #[derive(Clone, Copy)]
 pub(crate) struct Place {
     pub(crate) index: usize,
-    shift: u32,
+    pub(crate) shift: u32,
     ghost low: { shift < 8 },
 }
 

@@ -55,6 +55,8 @@ impl Refusal for FigureRefusal {
 }
 
 // Strikes the visible dots of a figure, in its order, and answers how many.
+// Inlined, so that a figure's own call tells a refused number as soon as it sees it, and makes no value of the figure first.
+#[inline(always)]
 pub fn draw<P: Plate>(plate: &mut P, figure: Figure, ink: Ink) -> Result<u32, FigureRefusal>
     ensures answer { told figure_number result ≡ figure_answer (cause_of figure) (dots_of figure) (P.Plate.window plate.old) (P.Plate.shots plate.old) }
     ensures history { P.Plate.strikes plate.old (figure_strikes (cause_of figure) (dots_of figure) (P.Plate.window plate.old) (P.Plate.shots plate.old) ink) plate.new }

@@ -23,11 +23,12 @@ impl Slope {
         2 * k as u64 * self.short as u64 + self.long as u64
     }
 
-    // The steps along the shorter difference when k of the longer are made.
+    // The steps along the shorter difference when k of the longer are made: no more than to its end.
     #[tactic(auto, unfolding(crate::specs::Lines::across))]
     fn steps_across(self, k: u16) -> u16
         requires { k ≤ self.long }
-        ensures { result ≡ across self.long self.short k }
+        ensures value { result ≡ across self.long self.short k }
+        ensures few { result ≤ self.short }
     {
         if self.long == 0 {
             return 0;
@@ -48,7 +49,8 @@ impl Gaps {
     #[tactic(auto, unfolding(crate::specs::Lines::steps_made))]
     fn steps(self, k: u16) -> (u16, u16)
         requires { k ≤ max self.wide self.tall }
-        ensures { result ≡ steps_made self.wide self.tall k }
+        ensures value { result ≡ steps_made self.wide self.tall k }
+        ensures few { (result.0 ≤ self.wide) × (result.1 ≤ self.tall) }
     {
         if self.tall <= self.wide {
             let slope = Slope {

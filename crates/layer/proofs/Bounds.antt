@@ -1,5 +1,5 @@
 -- The bounds of plates' windows are numbers of the world.
-use Rattle.std.proofs.Common.{◌≡◌, true, false, ◌&&◌, ℤ, pos, ◌-ℤ◌, sym, refl, ◌∙◌, subst, inl, inr, arith, w32, SFits, negsuc, is_some, Some, None, Option, ap}
+use Rattle.std.proofs.Common.{◌≡◌, true, false, ◌&&◌, ℤ, pos, ◌+ℤ◌, ◌-ℤ◌, sym, refl, ◌∙◌, subst, inl, inr, arith, w32, SFits, negsuc, is_some, Some, None, Option, ap}
 use lib.Signed.{le_z}
 use Rattle.std.proofs.lemmas.Int.{ints, to_z-of_z}
 use Rattle.std.proofs.lemmas.Bool.{and_parts, and_from, cases_Bool, cond-true, cond-false}
@@ -56,6 +56,9 @@ within_fits a t = let w = within_orders a t in omega (arith, ints)
 pub apart_fits : (a b : ℤ) → within a ≡ true → within b ≡ true → SFits w32 (a -ℤ b)
 apart_fits a b p q = let v = within_orders a p in let w = within_orders b q in omega (arith, ints)
 
+pub together_fits : (a b : ℤ) → within a ≡ true → within b ≡ true → SFits w32 (a +ℤ b)
+together_fits a b p q = let v = within_orders a p in let w = within_orders b q in omega (arith, ints)
+
 pub near_across : (a b : ℤ) → world (a, b) ≡ true → within a ≡ true
 near_across a b t = (world_parts (a, b) t).0
 
@@ -82,6 +85,10 @@ pub fits_handable : (z : ℤ) → SFits w32 z → handable z ≡ true
 unfolding handable
 fits_handable z f = grind (arith, ints)
 
+pub handable_fits : (z : ℤ) → handable z ≡ true → SFits w32 z
+unfolding handable
+handable_fits z t = grind (arith, ints)
+
 pub unfit_handable : (z : ℤ) → (SFits w32 z → ⊥) → handable z ≡ false
 unfolding handable
 unfit_handable z f = grind (arith, ints)
@@ -96,7 +103,7 @@ saturated_is (pos n) f = ap pos (omega (arith, ints))
 saturated_is (negsuc n) f = ap negsuc (omega (arith, ints))
 
 -- sets that attributes name by one word
-pub ruleset world_apart = (apart_fits, near_across, near_along)
+pub ruleset world_apart = (apart_fits, together_fits, near_across, near_along)
 
 pub ruleset made_within = (to_z-of_z, made_left, made_top, made_right, made_bottom)
 

@@ -55,7 +55,8 @@ pub trait Overlay {
         ensures { result ≡ carried (layer self.now ∷ []) at };
 
     // The same for every dot: one whose place no call can be handed stays where it is.
-    final fn map(&self, at: Dot) -> Dot
+    // Not `final`: code that keeps layers of several kinds asks for it behind a `&dyn Overlay`.
+    fn map(&self, at: Dot) -> Dot
         ensures { result ≡ place_below (layer self.now) at }
     {
         self.step(at).unwrap_or(at)

@@ -4,7 +4,8 @@
 // Read on in specs/Lines.antt, which has every line byte for byte, and in docs/PRINTING.md.
 #![tactic(auto)]
 
-ghost use Rattle.std.specs.Prelude.{◌≡◌, ◌≤◌, true, [], ◌++◌, length, drop, map};
+ghost use Rattle.std.specs.Prelude.{◌≡◌, ◌+◌, ◌≤◌, true, [], ◌++◌, length, drop, map, nat_le};
+ghost use Rattle.std.proofs.lemmas.List.Edits.{sets};
 ghost use Rattle.std.specs.List.{concat};
 ghost use Rattle.plate.specs.World.{inside};
 ghost use Rattle.plate.specs.Answers.{told};
@@ -34,22 +35,46 @@ impl Refusal for PrintRefusal {
     }
 }
 
-// Writes the pieces one after another at the start of the bytes, or nothing where they do not fit, which `write!` could not promise:
-// the first piece is written once the others are. The function calls itself, since a loop that moves along the bytes leaves
-// open to a proof what they end as.
+// Writes a text, and answers the place after it.
+#[tactic(auto, using(crate::proofs::Places::sets_copied))]
+fn put_text(out: &mut [u8], at: usize, text: &str) -> usize
+    requires { at + length text.now ≤ length out.old }
+    ensures after { result ≡ at + length text.now }
+    ensures bytes { out.new ≡ sets out.old at text.now }
+{
+    let end = at + text.len();
+    out[at..end].copy_from_slice(text.as_bytes());
+    end
+}
+
+// The room shrinks piece by piece, so that no sum of lengths can grow too large.
+fn all_fit(pieces: &[&str], mut room: usize) -> bool
+    ensures { result ≡ nat_le (length (concat (map (λ p. p.now) pieces.now))) room }
+{
+    for piece in pieces {
+        let len = piece.len();
+        if room < len {
+            return false;
+        }
+        room -= len;
+    }
+    true
+}
+
+// Writes the pieces at the start of the bytes, or nothing where they do not fit.
+// A place moves along the bytes: where the function called itself to cut each piece into its place, a line of short numbers took five times as long.
 fn write_line(out: &mut [u8], pieces: &[&str]) -> Result<usize, PrintRefusal>
     ensures answer { told print_number result ≡ line_answer (concat (map (λ p. p.now) pieces.now)) out.old }
     ensures bytes { out.new ≡ written (concat (map (λ p. p.now) pieces.now)) out.old }
 {
-    let Some((first, others)) = pieces.split_first() else {
-        return Ok(0);
-    };
-    let Some((here, rest)) = out.split_at_mut_checked(first.len()) else {
+    if !all_fit(pieces, out.len()) {
         return Err(PrintRefusal::TooShort);
-    };
-    let len = write_line(rest, others)?;
-    here.copy_from_slice(first.as_bytes());
-    Ok(first.len() + len)
+    }
+    let mut at = 0;
+    for piece in pieces {
+        at = put_text(out, at, piece);
+    }
+    Ok(at)
 }
 
 // Writes "width height shots".

@@ -7,9 +7,9 @@ mod tests {
     use bitmap::Bitmap;
     use cached::Cached;
     use figure::{circle, filled, line, outline};
-    use layer::{mask_over, shift_over, turn_over};
+    use layer::{Overlay, Turning, mask_over, shift_over, turn_over};
     use pile::{exchanges_axes, place_of};
-    use plate::{Ink, Plate, Refusal, StrikeRefusal, Window};
+    use plate::{Dot, Ink, Plate, Refusal, StrikeRefusal, Window};
     use report::{write_header, write_refusal, write_row};
     use strip::{Record, Strip};
 
@@ -209,5 +209,19 @@ mod tests {
             told(outline(&mut strip, (32768, 0), -1, 1, Ink::Light)),
             Err(1)
         );
+    }
+
+    fn placed(layer: &dyn Overlay, at: Dot) -> Dot {
+        layer.map(at)
+    }
+
+    // Code that keeps layers of several kinds asks each for its map behind a reference.
+    #[test]
+    fn map_behind_a_reference(rt: HostRuntime) {
+        let mut places = [(0, 0); 2];
+        if let (Ok(quarter), Ok(swap)) = (Turning::try_from(1), Turning::try_from(6)) {
+            places = [placed(&quarter, (3, 1)), placed(&swap, (3, 1))];
+        }
+        assert_eq!(rt; places, [(-1, 3), (1, 3)]);
     }
 }
